@@ -1,0 +1,13 @@
+//! Plain values that every other crate speaks of: literals, lists, rows of bits, want of memory. The product's meaning
+//! stands in `specs/`: `Literals`, `Circuit`, `Valuation`, `Runs`, `Replay`, `Invariants`, `Sets`, `Laws`.
+#![tactic(auto)]
+
+mod items;
+mod literal;
+mod memory;
+mod row;
+
+pub use items::{Items, Lits, Props};
+pub use literal::{Lit, Var};
+pub use memory::{Memory, OrMemory};
+pub use row::{Row, Rows};
