@@ -2,7 +2,7 @@
 use Rattle.std.specs.Prelude.{◌≡◌, ℕ, ◌<◌, ◌==◌, ◌||◌, Bool, Option, Some, List, is_some, slice_index}
 use Rattle.std.specs.List.{list_any}
 use Rattle.std.specs.Ordering.{nat_cmp}
-use Rattle.std.specs.FinMap as map
+use Rattle.std.specs.FinMap as finite_map
 use Rattle.ja_base.specs.Literals.{variable}
 
 -- a latch: its variable, the literal of its next state, and its first state, which is free where it is None
@@ -11,17 +11,20 @@ pub record Latch : Type 0 where
   pub next : ℕ
   pub reset : Option Bool
 
--- Variables 0 to vars, 0 being the constant; input variables; latches; a gate's variable leads to its two right literals,
--- and the gates have no order; one bad literal a property; constraint literals.
 pub record Circuit : Type 0 where
+  -- the greatest variable; variable 0 is the constant
   pub vars : ℕ
+  -- the input variables
   pub inputs : List ℕ
   pub latches : List Latch
-  pub gates : map.FinMap nat_cmp (ℕ × ℕ)
+  -- from each gate's variable to its two right literals; gates have no order
+  pub gates : finite_map.FinMap nat_cmp (ℕ × ℕ)
+  -- one bad literal for each property
   pub bads : List ℕ
   pub constraints : List ℕ
 
--- the circuit, and for each property whether it is expected to hold, which is: assumed at earlier steps
+-- A circuit, and one bit for each property: whether it is expected to hold. Those are the properties that are assumed at
+-- earlier steps. A bit that lacks assumes nothing.
 pub record Problem : Type 0 where
   pub circuit : Circuit
   pub assumed : List Bool
@@ -33,10 +36,10 @@ bad_literal c p = slice_index c.bads p
 -- an input, a latch or a gate has this variable
 abbrev pub is_defined : Circuit → ℕ → Bool
 is_defined c u =
-    list_any (λ v. u == v) c.inputs || list_any (λ (l : Latch). u == l.var) c.latches || is_some (map.get c.gates u)
+    list_any (λ v. u == v) c.inputs || list_any (λ (l : Latch). u == l.var) c.latches || is_some (finite_map.get c.gates u)
 
 -- No gate depends on itself through gates: there are heights that rise from the right sides of each gate to the gate.
 pub record IsAcyclic (c : Circuit) : Type 0 where
   pub height : ℕ → ℕ
-  pub rises : (g : ℕ) (rights : ℕ × ℕ) → map.get c.gates g ≡ Some rights
+  pub rises : (g : ℕ) (rights : ℕ × ℕ) → finite_map.get c.gates g ≡ Some rights
       → (height (variable rights.0) < height g) × (height (variable rights.1) < height g)

@@ -1,15 +1,16 @@
 -- What clauses over latch variables say: a list that is inductive under assumptions, and the properties that it covers.
 use Rattle.std.specs.Prelude.{◌≡◌, ℕ, ◌==◌, Bool, true, false, if◌then◌else◌, List, [], ◌∷◌}
-use Rattle.ja_base.specs.Literals.{bit, variable, signed, AllSatisfiedBy}
+use Rattle.ja_base.specs.Literals.{bit, variable, with_sign, AllSatisfiedBy}
 use Rattle.ja_base.specs.Circuit.{Circuit, Latch}
 use Rattle.ja_base.specs.Valuation.{IsValuation, next_state, IsGood, MeetsConstraints, AssumptionsHold}
 use Rattle.ja_base.specs.Runs.{IsInitial}
 
--- what a literal is where the latches have the bits of a row; a literal over no latch is false
+-- What a literal is where the latches have the bits of a row. A literal over no latch is false, with both signs, and so are the
+-- constants: clauses over other variables say nothing of a latch row.
 abbrev pub latch_value : List Latch → List Bool → ℕ → Bool
 latch_value [] state l = false
 latch_value (k ∷ ks) [] l = false
-latch_value (k ∷ ks) (b ∷ state) l = if variable l == k.var then signed l b else latch_value ks state l
+latch_value (k ∷ ks) (b ∷ state) l = if variable l == k.var then with_sign l b else latch_value ks state l
 
 -- each clause has a literal that is 1 in this latch row
 abbrev pub MeetsClauses : Circuit → List Bool → List (List ℕ) → Type 0

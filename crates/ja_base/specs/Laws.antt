@@ -1,5 +1,5 @@
--- Laws over the definitions alone. Each is the contract of a public function with an empty body, in the crate that first
--- needs it.
+-- Statements over the definitions alone. Each is proved where it is the contract of a public function with an empty body, in
+-- the crate that first needs it.
 use Rattle.std.specs.Prelude.{◌≡◌, ℕ, ◌+◌, Bool, List, [], ◌++◌, length, take}
 use Rattle.ja_base.specs.Circuit.{Circuit, Problem, IsAcyclic}
 use Rattle.ja_base.specs.Valuation.{IsValuation}
@@ -16,7 +16,7 @@ abbrev pub ReachableStatesMeet : Type 0
 ReachableStatesMeet = (t : Problem) (clauses : List (List ℕ)) (state : List Bool) → IsInductive t.circuit t.assumed clauses
     → IsReachable t state → MeetsClauses t.circuit state clauses
 
--- what such a list covers does not fail locally
+-- a property that a list covers, which is inductive under the assumptions, does not fail locally
 abbrev pub CoveredNeverFails : Type 0
 CoveredNeverFails = (t : Problem) (clauses : List (List ℕ)) (p : ℕ) → IsInductive t.circuit t.assumed clauses
     → Covers t.circuit clauses p → FailsLocally t p → ⊥
@@ -31,7 +31,7 @@ abbrev pub AssumptionsDischarge : Type 0
 AssumptionsDischarge = (c : Circuit) (set : List Bool) (clauses : List (List ℕ)) → IsInductive c set clauses
     → CoversAll c set clauses → IsInductive c [] clauses
 
--- and no legal stimulus breaks a property of the set
+-- where a list that is inductive under a set covers all of it, no legal stimulus breaks a property of the set
 abbrev pub CoveredNeverBreaks : Type 0
 CoveredNeverBreaks = (c : Circuit) (set : List Bool) (clauses : List (List ℕ)) (m : Trace) → IsInductive c set clauses
     → CoversAll c set clauses → BreaksAssumed c set m → ⊥
@@ -44,3 +44,7 @@ cut m n = record { first = m.first; inputs = take n m.inputs }
 abbrev pub FirstBrokenFailsLocally : Type 0
 FirstBrokenFailsLocally = (t : Problem) (m : Trace) (p : ℕ) (b : IsFirstBroken t m p)
     → IsLocalFailure t p (cut m (length b.before + 1))
+
+-- a legal stimulus that breaks an assumed property breaks one first
+abbrev pub BreaksHaveFirst : Type 0
+BreaksHaveFirst = (t : Problem) (m : Trace) → BreaksAssumed t.circuit t.assumed m → (p : ℕ) × IsFirstBroken t m p

@@ -6,3 +6,4 @@ pub mod Replay
 pub mod Invariants
 pub mod Sets
 pub mod Laws
+pub mod Answers

@@ -22,12 +22,12 @@ abbrev pub negated : ℕ → ℕ
 negated l = if is_negated l then l - 1 else l + 1
 
 -- what a literal is where its variable has the bit b
-abbrev pub signed : ℕ → Bool → Bool
-signed l b = if is_negated l then not b else b
+abbrev pub with_sign : ℕ → Bool → Bool
+with_sign l b = if is_negated l then not b else b
 
 -- what a literal is under a row that has a bit for each variable
 abbrev pub value : List Bool → ℕ → Bool
-value row l = signed l (bit row (variable l))
+value row l = with_sign l (bit row (variable l))
 
 -- some literal of the clause is 1
 abbrev pub SatisfiedBy : (ℕ → Bool) → List ℕ → Type 0

@@ -27,12 +27,15 @@ abbrev pub states_of : Circuit → List (List Bool) → List (List Bool)
 states_of c [] = []
 states_of c (v ∷ vs) = latch_row c v ∷ states_of c vs
 
--- A stimulus with its steps: it starts as the resets say, has at least one step, and meets each constraint at each step,
--- the last included.
-pub record IsLegal (c : Circuit) (m : Trace) (steps : List (List Bool)) : Type 0 where
+-- a stimulus that starts as the resets say and has at least one step, with its steps
+pub record IsReplay (c : Circuit) (m : Trace) (steps : List (List Bool)) : Type 0 where
   pub starts : IsInitial c m.first
   pub runs : IsRun c m.first m.inputs steps
-  pub some : 0 < length steps
+  pub has_step : 0 < length steps
+
+-- each constraint is met at each step, the last included
+pub record IsLegal (c : Circuit) (m : Trace) (steps : List (List Bool)) : Type 0 where
+  pub replay : IsReplay c m steps
   pub constrained : All (MeetsConstraints c) steps
 
 -- a legal stimulus that ends with the step last, before which no assumed property was broken

@@ -1,5 +1,5 @@
 -- One step of a circuit: the value of each variable under a latch row and an input row, and what it says.
-use Rattle.std.specs.Prelude.{◌≡◌, ℕ, ◌+◌, ◌&&◌, Bool, true, false, Some, List, length, map, slice_get}
+use Rattle.std.specs.Prelude.{◌≡◌, ℕ, ◌+◌, ◌&&◌, Bool, true, false, Some, List, length, map, All}
 use Rattle.std.specs.FinMap as finite_map
 use Rattle.ja_base.specs.Literals.{bit, value}
 use Rattle.ja_base.specs.Circuit.{Circuit, Latch, bad_literal, is_defined}
@@ -37,7 +37,7 @@ IsGood c p values = value values (bad_literal c p) ≡ false
 
 -- each constraint is 1 at this step
 abbrev pub MeetsConstraints : Circuit → List Bool → Type 0
-MeetsConstraints c values = (k l : ℕ) → slice_get c.constraints k ≡ Some l → value values l ≡ true
+MeetsConstraints c values = All (λ l. value values l ≡ true) c.constraints
 
 -- no property of the set is broken at this step; the empty list assumes nothing
 abbrev pub AssumptionsHold : Circuit → List Bool → List Bool → Type 0

@@ -1,6 +1,6 @@
 //! Rows of bits, and lists of rows.
 
-ghost use Rattle.std.specs.Prelude.{◌≡◌, ℕ, ◌^◌, ◌<◌, [], ◌∷◌, ◌++◌, Bool, false, List, length, replicate, slice_set, slice_get, Some, IfOk, OnOk, OnErr};
+ghost use Rattle.std.specs.Prelude.{◌≡◌, ℕ, ◌^◌, ◌<◌, [], ◌∷◌, ◌++◌, Bool, true, false, List, length, replicate, slice_set, slice_get, Some, IfOk, OnOk, OnErr};
 ghost use Rattle.ja_base.specs.Literals.{bit};
 
 use crate::memory::Memory;
@@ -33,10 +33,26 @@ impl Row {
         })
     }
 
+    /// `len` bits, each 1.
+    pub fn ones(alloc: Global, len: u32) -> Result<Row, Memory>
+        ensures { IfOk result (λ row. row ≡ replicate len true) }
+    {
+        Ok(Row {
+            bits: vec![in alloc; true; len as usize]?,
+        })
+    }
+
     pub fn len(&self) -> u32
         ensures { result ≡ length self.now }
     {
         self.bits.len() as u32
+    }
+
+    pub fn as_slice(&self) -> &[bool]
+        ensures value { result.now ≡ self.now }
+        ensures short { length self.now < 2 ^ 32 }
+    {
+        self.bits.as_slice()
     }
 
     pub fn get(&self, at: u32) -> bool

@@ -1,0 +1,3 @@
+pub mod Netlist
+pub mod Task
+pub mod Refusals
