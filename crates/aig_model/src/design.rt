@@ -53,32 +53,37 @@ impl Design {
     }
 
     pub fn inputs(&self) -> u32
-        ensures { result ≡ length self.now.inputs }
+        ensures value { result ≡ length self.now.inputs }
+        ensures sound { IsSound self.now }
     {
         self.inputs.len()
     }
 
     pub fn latches(&self) -> u32
-        ensures { result ≡ length self.now.latches }
+        ensures value { result ≡ length self.now.latches }
+        ensures sound { IsSound self.now }
     {
         self.latches.len()
     }
 
     pub fn gates(&self) -> u32
-        ensures { result ≡ length self.now.gates }
+        ensures value { result ≡ length self.now.gates }
+        ensures sound { IsSound self.now }
     {
         self.gates.len()
     }
 
     /// How many properties there are.
     pub fn props(&self) -> u32
-        ensures { result ≡ length self.now.bads }
+        ensures value { result ≡ length self.now.bads }
+        ensures sound { IsSound self.now }
     {
         self.bads.len()
     }
 
     pub fn constraints(&self) -> u32
-        ensures { result ≡ length self.now.constraints }
+        ensures value { result ≡ length self.now.constraints }
+        ensures sound { IsSound self.now }
     {
         self.constraints.len()
     }
