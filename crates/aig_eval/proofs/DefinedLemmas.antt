@@ -1,5 +1,5 @@
 -- What the circuit of a netlist defines, against the lists of the netlist.
-use Rattle.std.proofs.Common.{◌≡◌, ℕ, suc, zero, ◌+◌, ◌<◌, ◌≤◌, ◌==◌, ◌||◌, Bool, true, false, List, [], ◌∷◌, Some, None, length, map, cond, get_or, slice_get, option_map, is_some, sym, ap, ◌∙◌, subst, refl, arith, eq-eqb, eqb-true, nat_cmp, Option, ⊎_elim}
+use Rattle.std.proofs.Common.{◌≡◌, ℕ, suc, zero, ◌<◌, ◌==◌, ◌||◌, Bool, true, false, List, [], ◌∷◌, Some, None, length, map, cond, get_or, slice_get, option_map, is_some, sym, ap, ◌∙◌, refl, arith, eq-eqb, eqb-true, nat_cmp, Option, ⊎_elim}
 use Rattle.std.specs.Ordering.{eq_by_cmp}
 use Rattle.std.specs.List.{list_any}
 use Rattle.std.specs.FinMap as finite_map
@@ -11,11 +11,10 @@ use Rattle.std.proofs.lemmas.List.Folds.{list_any_at}
 use Rattle.std.proofs.lemmas.Option.{slice_get-map, slice_get_within, get_or_from_slice_get, same_Some}
 use Rattle.ja_base.specs.Literals.{variable}
 use Rattle.ja_base.specs.Circuit as plain
-use Rattle.aig_model.specs.declared.netlist.Latch.{Latch}
 use Rattle.aig_model.specs.declared.netlist.AndGate.{AndGate}
-use Rattle.aig_model.specs.Netlist.{Netlist, IsSound, circuit, entry_of, latch_of, gate_var}
+use Rattle.aig_model.specs.Netlist.{Netlist, circuit, entry_of, latch_of, gate_var}
 use Rattle.aig_eval.specs.Rows.{latch_var, input_vars, latch_vars}
-use Rattle.aig_eval.proofs.PlaceLemmas.{map_at, gate_vars}
+use Rattle.aig_eval.proofs.PlaceLemmas.{map_at}
 
 -- there is an item at each place of a list
 pub item_at : {A : Type 0} (xs : List A) (k : ℕ) → k < length xs → (x : A) × (slice_get xs k ≡ Some x)
@@ -55,8 +54,8 @@ has_entry : (gates : List AndGate) (u : ℕ) (rights : ℕ × ℕ) → finite_ma
 has_entry [] u rights e = absurd (cc)
 has_entry (g ∷ gates) u rights e =
     first_or_later g gates u rights (u == gate_var g) refl
-        (ap (λ b. cond b (Some (g.rhs0, g.rhs1)) (finite_map.find nat_cmp u (map entry_of gates))) (sym (unsigned_tied u (gate_var g))) ∙ e)
-        (has_entry gates u rights)
+    (ap (λ b. cond b (Some (g.rhs0, g.rhs1)) (finite_map.find nat_cmp u (map entry_of gates))) (sym (unsigned_tied u (gate_var g))) ∙ e)
+    (has_entry gates u rights)
 
 -- each right side of the circuit is that of a gate of the list
 pub has_gate : (n : Netlist) (u : ℕ) (rights : ℕ × ℕ) → finite_map.get (circuit n).gates u ≡ Some rights → HasGate n.gates u rights
@@ -74,10 +73,10 @@ entry_found : (gates : List AndGate) (k u : ℕ) (g : AndGate) → slice_get gat
 entry_found [] k u g e same = absurd (cc)
 entry_found (x ∷ gates) zero u g e same =
     first_is_some (eq_by_cmp nat_cmp u (gate_var x)) (x.rhs0, x.rhs1) (finite_map.find nat_cmp u (map entry_of gates))
-        (unsigned_tied u (gate_var x) ∙ eq-eqb u (gate_var x) (sym (ap gate_var (same_Some x g e) ∙ same)))
+    (unsigned_tied u (gate_var x) ∙ eq-eqb u (gate_var x) (sym (ap gate_var (same_Some x g e) ∙ same)))
 entry_found (x ∷ gates) (suc k) u g e same =
     rest_is_some (eq_by_cmp nat_cmp u (gate_var x)) (x.rhs0, x.rhs1) (finite_map.find nat_cmp u (map entry_of gates))
-        (entry_found gates k u g e same)
+    (entry_found gates k u g e same)
 
 -- no place of the netlist defines the variable
 pub record IsFree (n : Netlist) (u : ℕ) : Type 0 where
@@ -96,7 +95,7 @@ free_from_undefined n u undefined =
           (eq-eqb u (get_or (input_vars n) k 0) (sym same)));
       no_latch = λ k h same. let item = item_at n.latches k h in
           both_ways las lists.1 (any_mapped (λ (l : plain.Latch). u == l.var) latch_of n.latches k item.0 item.1
-              (eq-eqb u (variable item.0.lit) (sym same ∙ map_at latch_var n.latches k item.0 0 item.1)));
+          (eq-eqb u (variable item.0.lit) (sym same ∙ map_at latch_var n.latches k item.0 0 item.1)));
       no_gate = λ k g h e same. both_ways (is_some (finite_map.get (circuit n).gates u)) parts.1
           (ap is_some (finite_map.get-from_entries nat_cmp_total (map entry_of n.gates) u) ∙ entry_found n.gates k u g e same);
     }
@@ -114,21 +113,23 @@ some_value (Some x) h = (x, refl)
 pub undefined_from_free : (n : Netlist) (u : ℕ) → IsFree n u → plain.is_defined (circuit n) u ≡ false
 undefined_from_free n u free =
     or_from (list_any (λ v. u == v) (circuit n).inputs || list_any (λ (l : plain.Latch). u == l.var) (circuit n).latches)
-        (is_some (finite_map.get (circuit n).gates u))
-        (or_from (list_any (λ v. u == v) (circuit n).inputs) (list_any (λ (l : plain.Latch). u == l.var) (circuit n).latches)
-            (false_from_ne_true (list_any (λ v. u == v) (circuit n).inputs) (λ t. no_input (found_in (λ v. u == v) (circuit n).inputs t)))
-            (false_from_ne_true (list_any (λ (l : plain.Latch). u == l.var) (circuit n).latches)
-                (λ t. no_latch (found_in (λ (l : plain.Latch). u == l.var) (circuit n).latches t))))
-        (false_from_ne_true (is_some (finite_map.get (circuit n).gates u)) (λ t. no_gate (some_value (finite_map.get (circuit n).gates u) t)))
+    (is_some (finite_map.get (circuit n).gates u))
+    (or_from (list_any (λ v. u == v) (circuit n).inputs) (list_any (λ (l : plain.Latch). u == l.var) (circuit n).latches)
+    (false_from_ne_true (list_any (λ v. u == v) (circuit n).inputs) (λ t. no_input (found_in (λ v. u == v) (circuit n).inputs t)))
+    (false_from_ne_true (list_any (λ (l : plain.Latch). u == l.var) (circuit n).latches)
+    (λ t. no_latch (found_in (λ (l : plain.Latch). u == l.var) (circuit n).latches t))))
+    (false_from_ne_true (is_some (finite_map.get (circuit n).gates u)) (λ t. no_gate (some_value (finite_map.get (circuit n).gates u) t)))
   where
     no_input : (k : ℕ) × (x : ℕ) × (slice_get (circuit n).inputs k ≡ Some x) × ((u == x) ≡ true) → ⊥
     no_input r = free.no_input r.0 (omega (arith, slice_get_within (circuit n).inputs r.0 r.1 r.2, length-map n.inputs variable))
         (get_or_from_slice_get (circuit n).inputs r.0 r.1 0 r.2 ∙ sym (eqb-true u r.1 r.3))
+
     no_latch : (k : ℕ) × (x : plain.Latch) × (slice_get (circuit n).latches k ≡ Some x) × ((u == x.var) ≡ true) → ⊥
     no_latch r =
         let within : r.0 < length n.latches = omega (arith, slice_get_within (circuit n).latches r.0 r.1 r.2, length-map n.latches latch_of) in
         let item = item_at n.latches r.0 within in
         let same = same_Some (latch_of item.0) r.1 (sym (slice_get_mapped latch_of n.latches r.0 item.0 item.1) ∙ r.2) in
         free.no_latch r.0 within (map_at latch_var n.latches r.0 item.0 0 item.1 ∙ ap (λ (l : plain.Latch). l.var) same ∙ sym (eqb-true u r.1.var r.3))
+
     no_gate : (x : ℕ × ℕ) × (finite_map.get (circuit n).gates u ≡ Some x) → ⊥
     no_gate r = let h = has_gate n u r.0 r.1 in free.no_gate h.place h.gate (slice_get_within n.gates h.place h.gate h.is) h.is h.var

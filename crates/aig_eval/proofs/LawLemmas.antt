@@ -1,14 +1,12 @@
 -- A sound design has a valuation for each latch row and input row of its widths, and an acyclic circuit has at most one.
-use Rattle.std.proofs.Common.{◌≡◌, ℕ, suc, zero, ◌+◌, ◌<◌, ◌≤◌, ◌&&◌, ◌||◌, ◌==◌, ◌⊎◌, Bool, true, false, List, Some, length, map, get_or, set, replicate, slice_get, is_some, sym, ap, ap₂, ◌∙◌, subst, refl, arith, eqb-true, add-one, ext_get_or, ⊎_elim}
+use Rattle.std.proofs.Common.{◌≡◌, ℕ, suc, zero, ◌+◌, ◌<◌, ◌≤◌, ◌&&◌, ◌||◌, ◌==◌, Bool, false, List, Some, length, get_or, set, replicate, slice_get, is_some, sym, ap, ap₂, ◌∙◌, subst, refl, arith, eqb-true, add-one, ext_get_or, ⊎_elim}
 use Rattle.std.specs.List.{list_any}
 use Rattle.std.specs.FinMap as finite_map
 use Rattle.std.proofs.lemmas.Bool.{cases_Bool, cases_lt, or_cases}
 use Rattle.std.proofs.lemmas.List.{length-map, length-replicate, get_or-replicate, get_or_past}
-use Rattle.std.proofs.lemmas.Option.{slice_get_within}
 use Rattle.ja_base.specs.Literals.{bit, value, variable, with_sign}
 use Rattle.ja_base.specs.Circuit.{Circuit, Latch, IsAcyclic, is_defined}
 use Rattle.ja_base.specs.Valuation.{IsValuation}
-use Rattle.aig_model.specs.declared.netlist.AndGate.{AndGate}
 use Rattle.aig_model.specs.Netlist.{Netlist, AreApart, IsSound, circuit, gate_var}
 use Rattle.aig_eval.specs.Rows.{latch_var, input_vars, latch_vars, IsClear, Puts, PutsGates}
 use Rattle.aig_eval.proofs.PlaceLemmas.{HasOwnVars, own_vars, map_at}
@@ -38,17 +36,17 @@ module _ (c : Circuit) (acyclic : IsAcyclic c) (state input v w : List Bool) (a 
   agree_from_below : (u : ℕ) → ((x : ℕ) → acyclic.height x < acyclic.height u → bit v x ≡ bit w x) → bit v u ≡ bit w u
   agree_from_below u below =
       ⊎_elim
-          (λ defined. ⊎_elim
-              (λ listed. ⊎_elim
-                  (λ t. let r = found_in (λ x. u == x) c.inputs t in
-                      let same = eqb-true u r.1 r.3 in ap (bit v) same ∙ same_input r.0 r.1 r.2 ∙ ap (bit w) (sym same))
-                  (λ t. let r = found_in (λ (l : Latch). u == l.var) c.latches t in
-                      let same = eqb-true u r.1.var r.3 in ap (bit v) same ∙ same_latch r.0 r.1 r.2 ∙ ap (bit w) (sym same))
-                  (or_cases (list_any (λ x. u == x) c.inputs) (list_any (λ (l : Latch). u == l.var) c.latches) listed))
-              (λ t. let r = some_value (finite_map.get c.gates u) t in same_gate u r.0 r.1 below)
-              (or_cases (list_any (λ x. u == x) c.inputs || list_any (λ (l : Latch). u == l.var) c.latches) (is_some (finite_map.get c.gates u)) defined))
-          (λ undefined. a.rest u undefined ∙ sym (b.rest u undefined))
-          (cases_Bool (is_defined c u))
+      (λ defined. ⊎_elim
+      (λ listed. ⊎_elim
+      (λ t. let r = found_in (λ x. u == x) c.inputs t in
+      let same = eqb-true u r.1 r.3 in ap (bit v) same ∙ same_input r.0 r.1 r.2 ∙ ap (bit w) (sym same))
+      (λ t. let r = found_in (λ (l : Latch). u == l.var) c.latches t in
+      let same = eqb-true u r.1.var r.3 in ap (bit v) same ∙ same_latch r.0 r.1 r.2 ∙ ap (bit w) (sym same))
+      (or_cases (list_any (λ x. u == x) c.inputs) (list_any (λ (l : Latch). u == l.var) c.latches) listed))
+      (λ t. let r = some_value (finite_map.get c.gates u) t in same_gate u r.0 r.1 below)
+      (or_cases (list_any (λ x. u == x) c.inputs || list_any (λ (l : Latch). u == l.var) c.latches) (is_some (finite_map.get c.gates u)) defined))
+      (λ undefined. a.rest u undefined ∙ sym (b.rest u undefined))
+      (cases_Bool (is_defined c u))
 
   agree_below : (n u : ℕ) → acyclic.height u < n → bit v u ≡ bit w u
   agree_below zero u h = absurd (omega arith)
@@ -90,17 +88,17 @@ inputs_exist : (n : Netlist) (input old : List Bool) → IsSound n → HasOwnVar
     → (new : List Bool) × Puts (input_vars n) input (length n.inputs) old new
 inputs_exist n input old sound own width =
     puts_exist (input_vars n) input old own.inputs
-        (λ k h. let item = item_at n.inputs k (omega (arith, length-map n.inputs variable)) in
-            omega (arith, map_at variable n.inputs k item.0 0 item.1, new_is_within n.vars item.0 (sound.inputs k item.0 item.1)))
-        (length n.inputs) (omega (arith, length-map n.inputs variable))
+    (λ k h. let item = item_at n.inputs k (omega (arith, length-map n.inputs variable)) in
+    omega (arith, map_at variable n.inputs k item.0 0 item.1, new_is_within n.vars item.0 (sound.inputs k item.0 item.1)))
+    (length n.inputs) (omega (arith, length-map n.inputs variable))
 
 latches_exist : (n : Netlist) (state old : List Bool) → IsSound n → HasOwnVars n → length old ≡ n.vars + 1
     → (new : List Bool) × Puts (latch_vars n) state (length n.latches) old new
 latches_exist n state old sound own width =
     puts_exist (latch_vars n) state old own.latches
-        (λ k h. let item = item_at n.latches k (omega (arith, length-map n.latches latch_var)) in
-            omega (arith, map_at latch_var n.latches k item.0 0 item.1, new_is_within n.vars item.0.lit (sound.latches k item.0 item.1).lit))
-        (length n.latches) (omega (arith, length-map n.latches latch_var))
+    (λ k h. let item = item_at n.latches k (omega (arith, length-map n.latches latch_var)) in
+    omega (arith, map_at latch_var n.latches k item.0 0 item.1, new_is_within n.vars item.0.lit (sound.latches k item.0 item.1).lit))
+    (length n.latches) (omega (arith, length-map n.latches latch_var))
 
 pub valuation_exists : (n : Netlist) (state input : List Bool) → IsSound n → length state ≡ length n.latches
     → length input ≡ length n.inputs → (values : List Bool) × IsValuation (circuit n) state input values

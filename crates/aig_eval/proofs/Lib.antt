@@ -4,3 +4,4 @@ pub mod DefinedLemmas
 pub mod ValuationLemmas
 pub mod LawLemmas
 pub mod RunLemmas
+pub mod OrderLemmas

@@ -18,17 +18,17 @@ AreDisjoint xs ys = (i j : ℕ) → i < length xs → j < length ys → get_or x
 pub AreApart-left : (xs ys : List ℕ) → AreApart (xs ++ ys) → AreApart xs
 AreApart-left xs ys apart i j ij jn same =
     apart i j ij (omega (arith, length-append xs ys))
-        (get_or_append_left xs ys 0 i (omega arith) ∙ same ∙ sym (get_or_append_left xs ys 0 j jn))
+    (get_or_append_left xs ys 0 i (omega arith) ∙ same ∙ sym (get_or_append_left xs ys 0 j jn))
 
 pub AreApart-right : (xs ys : List ℕ) → AreApart (xs ++ ys) → AreApart ys
 AreApart-right xs ys apart i j ij jn same =
     apart (length xs + i) (length xs + j) (omega arith) (omega (arith, length-append xs ys))
-        (get_or-append-add xs ys i 0 ∙ same ∙ sym (get_or-append-add xs ys j 0))
+    (get_or-append-add xs ys i 0 ∙ same ∙ sym (get_or-append-add xs ys j 0))
 
 pub AreApart-between : (xs ys : List ℕ) → AreApart (xs ++ ys) → AreDisjoint xs ys
 AreApart-between xs ys apart i j ix jy same =
     apart i (length xs + j) (omega arith) (omega (arith, length-append xs ys))
-        (get_or_append_left xs ys 0 i ix ∙ same ∙ sym (get_or-append-add xs ys j 0))
+    (get_or_append_left xs ys 0 i ix ∙ same ∙ sym (get_or-append-add xs ys j 0))
 
 pub AreDisjoint-left : (xs ys zs : List ℕ) → AreDisjoint (xs ++ ys) zs → AreDisjoint xs zs
 AreDisjoint-left xs ys zs apart i j ix jz same =

@@ -4,7 +4,7 @@ use Rattle.std.proofs.lemmas.List.{length-map}
 use Rattle.std.proofs.lemmas.Option.{same_Some, slice_get_within}
 use Rattle.ja_base.specs.Literals.{bit, value, variable, with_sign}
 use Rattle.aig_model.specs.declared.netlist.AndGate.{AndGate}
-use Rattle.aig_model.specs.Netlist.{Netlist, AreApart, IsSound, IsBefore, gate_var}
+use Rattle.aig_model.specs.Netlist.{Netlist, AreApart, IsSound, gate_var}
 use Rattle.aig_eval.specs.Rows.{Puts, PutsGates}
 use Rattle.aig_eval.proofs.PlaceLemmas.{HasOwnVars, map_at, gate_vars}
 
@@ -16,9 +16,9 @@ pub Puts-more : (vars : List ℕ) (bits : List Bool) (n v : ℕ) (b : Bool) (old
     → Puts vars bits (n + 1) old (set new v b)
 Puts-more vars bits n v b old new apart within is is_bit fits p =
     let kept : (k : ℕ) → k < n → bit (set new v b) (get_or vars k 0) ≡ bit bits k
-        = λ k h. get_or-set_other new v (get_or vars k 0) b false (λ e. apart k n h within (e ∙ sym is)) ∙ p.put k h in
+    = λ k h. get_or-set_other new v (get_or vars k 0) b false (λ e. apart k n h within (e ∙ sym is)) ∙ p.put k h in
     let here : bit (set new v b) (get_or vars n 0) ≡ bit bits n
-        = ap (bit (set new v b)) is ∙ get_or-set_same new v b false (omega (arith, p.width)) ∙ is_bit in
+    = ap (bit (set new v b)) is ∙ get_or-set_same new v b false (omega (arith, p.width)) ∙ is_bit in
     record {
       width = length-set new v b ∙ p.width;
       put = below_more (λ k. bit (set new v b) (get_or vars k 0) ≡ bit bits k) n kept here;
@@ -37,8 +37,8 @@ module _ (n : Netlist) (sound : IsSound n) (own : HasOwnVars n) (at : ℕ) (gate
       → (value (set new (gate_var gate) b) g.rhs0 && value (set new (gate_var gate) b) g.rhs1) ≡ (value new g.rhs0 && value new g.rhs1)
   keeps_gate k g h e =
       ap₂ (λ x y. x && y)
-          (value-set_other new (gate_var gate) g.rhs0 b ((sound.gates k g e).before0 at gate h is))
-          (value-set_other new (gate_var gate) g.rhs1 b ((sound.gates k g e).before1 at gate h is))
+      (value-set_other new (gate_var gate) g.rhs0 b ((sound.gates k g e).before0 at gate h is))
+      (value-set_other new (gate_var gate) g.rhs1 b ((sound.gates k g e).before1 at gate h is))
 
   pub PutsGates-more : gate_var gate < length old → b ≡ (value new gate.rhs0 && value new gate.rhs1) → PutsGates n.gates at old new
       → PutsGates n.gates (at + 1) old (set new (gate_var gate) b)
@@ -46,13 +46,13 @@ module _ (n : Netlist) (sound : IsSound n) (own : HasOwnVars n) (at : ℕ) (gate
       let row = set new (gate_var gate) b in
       let within : at < length (gate_vars n) = omega (arith, length-map n.gates gate_var, slice_get_within n.gates at gate is) in
       let apart : (k : ℕ) (g : AndGate) → k < at → slice_get n.gates k ≡ Some g → gate_var g ≡ gate_var gate → ⊥
-          = λ k g h e same. own.gates k at h within (map_at gate_var n.gates k g 0 e ∙ same ∙ sym (map_at gate_var n.gates at gate 0 is)) in
+      = λ k g h e same. own.gates k at h within (map_at gate_var n.gates k g 0 e ∙ same ∙ sym (map_at gate_var n.gates at gate 0 is)) in
       let kept : (k : ℕ) → k < at → (g : AndGate) → slice_get n.gates k ≡ Some g → bit row (gate_var g) ≡ (value row g.rhs0 && value row g.rhs1)
-          = λ k h g e. get_or-set_other new (gate_var gate) (gate_var g) b false (apart k g h e) ∙ p.put k g h e ∙ sym (keeps_gate k g (omega arith) e) in
+      = λ k h g e. get_or-set_other new (gate_var gate) (gate_var g) b false (apart k g h e) ∙ p.put k g h e ∙ sym (keeps_gate k g (omega arith) e) in
       let own_value : bit row (gate_var gate) ≡ (value row gate.rhs0 && value row gate.rhs1)
-          = get_or-set_same new (gate_var gate) b false (omega (arith, p.width)) ∙ is_b ∙ sym (keeps_gate at gate (le_refl at) is) in
+      = get_or-set_same new (gate_var gate) b false (omega (arith, p.width)) ∙ is_b ∙ sym (keeps_gate at gate (le_refl at) is) in
       let here : (g : AndGate) → slice_get n.gates at ≡ Some g → bit row (gate_var g) ≡ (value row g.rhs0 && value row g.rhs1)
-          = λ g e. subst (λ x. bit row (gate_var x) ≡ (value row x.rhs0 && value row x.rhs1)) (same_Some gate g (sym is ∙ e)) own_value in
+      = λ g e. subst (λ x. bit row (gate_var x) ≡ (value row x.rhs0 && value row x.rhs1)) (same_Some gate g (sym is ∙ e)) own_value in
       let all = below_more (λ k. (g : AndGate) → slice_get n.gates k ≡ Some g → bit row (gate_var g) ≡ (value row g.rhs0 && value row g.rhs1)) at kept here in
       record {
         width = length-set new (gate_var gate) b ∙ p.width;

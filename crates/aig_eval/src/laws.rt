@@ -1,4 +1,4 @@
-//! Laws of valuations.
+//! Laws of valuations: a design has exactly one for each latch row and input row of its widths.
 
 ghost use Rattle.std.specs.Prelude.{◌≡◌, Bool, List, length};
 ghost use Rattle.ja_base.specs.Valuation.{IsValuation};
@@ -9,11 +9,15 @@ ghost use Rattle.aig_model.specs.Netlist.{Netlist, circuit, IsSound};
 pub fn valuation_exists()
     ensures { (n : Netlist) (state input : List Bool) → IsSound n → length state ≡ length n.latches
         → length input ≡ length n.inputs → (values : List Bool) × IsValuation (circuit n) state input values }
-{
-}
+{}
 
-/// There is at most one.
+/// An acyclic circuit has at most one.
 pub fn valuations_agree()
     ensures { ValuationsAgree }
-{
-}
+{}
+
+/// A sound design has at most one.
+pub fn valuation_is_unique()
+    ensures { (n : Netlist) (state input v w : List Bool) → IsSound n → IsValuation (circuit n) state input v
+        → IsValuation (circuit n) state input w → v ≡ w }
+{}

@@ -6,6 +6,6 @@ mod laws;
 mod runner;
 mod step;
 
-pub use laws::{valuation_exists, valuations_agree};
+pub use laws::{valuation_exists, valuation_is_unique, valuations_agree};
 pub use runner::Runner;
 pub use step::{lit_of, next_into, step_into};

@@ -4,5 +4,5 @@ use Rattle.aig_eval.proofs.step.clear.Given as goal
 abbrev pub invariant-loop-at : goal.invariant-loop-at
 invariant-loop-at l = record {
   width : length l.vals ≡ length l.fn.vals;
-  zeros : (k : ℕ) → k < l.at → get_or l.vals k false ≡ false
+  zeros : (k : ℕ) → k < l.at → get_or l.vals k false ≡ false;
 }

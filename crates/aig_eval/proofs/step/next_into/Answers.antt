@@ -13,4 +13,4 @@ lit_of-requires c =
 pub returns : goal.returns
 returns c =
     sym (latches_mapped c.args.d.now (λ (l : Latch). value c.args.vals.now l.next) c.loop-at.latches c.loop-at.invariant.width
-        (λ k latch e. sym (c.loop-at.invariant.next k latch (omega (arith, slice_get_within c.args.d.now.latches k latch e)) e)))
+    (λ k latch e. sym (c.loop-at.invariant.next k latch (omega (arith, slice_get_within c.args.d.now.latches k latch e)) e)))

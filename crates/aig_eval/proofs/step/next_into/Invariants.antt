@@ -6,5 +6,5 @@ use Rattle.aig_eval.proofs.step.next_into.Given as goal
 abbrev pub invariant-loop-at : goal.invariant-loop-at
 invariant-loop-at l = record {
   width : length l.latches ≡ length l.d.latches;
-  next : (k : ℕ) (latch : Latch) → k < l.at → slice_get l.d.latches k ≡ Some latch → bit l.latches k ≡ value l.vals latch.next
+  next : (k : ℕ) (latch : Latch) → k < l.at → slice_get l.d.latches k ≡ Some latch → bit l.latches k ≡ value l.vals latch.next;
 }

@@ -9,4 +9,4 @@ returns-clause-run c = λ first rows steps r.
     let n = c.args.d.now in
     let opened = ap (λ (s : Standing). s.state) c.self.view_is in
     RunsTo-push (circuit n) first rows steps c.self.inside.state c.args.inputs.now c.evaluate.new.vals c.next_into.new.latches
-        (subst (λ s. RunsTo (circuit n) first rows steps s) (sym opened) r) c.evaluate.ensures c.next_into.ensures
+    (subst (λ s. RunsTo (circuit n) first rows steps s) (sym opened) r) c.evaluate.ensures c.next_into.ensures
