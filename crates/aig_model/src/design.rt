@@ -1,7 +1,7 @@
 //! A design that is well formed.
 
 ghost use Rattle.std.specs.Prelude.{◌≡◌, ◌<◌, ◌^◌, length, slice_get, Some};
-ghost use Rattle.aig_model.specs.Netlist.{IsSound};
+ghost use Rattle.aig_model.specs.Netlist.{IsSound, IsKnown, definitions};
 
 use crate::netlist::{AndGate, AndGates, Latch, Latches};
 use ja_base::{Lit, Lits};
@@ -75,15 +75,13 @@ impl Design {
 
     /// How many properties there are.
     pub fn props(&self) -> u32
-        ensures value { result ≡ length self.now.bads }
-        ensures sound { IsSound self.now }
+        ensures { result ≡ length self.now.bads }
     {
         self.bads.len()
     }
 
     pub fn constraints(&self) -> u32
-        ensures value { result ≡ length self.now.constraints }
-        ensures sound { IsSound self.now }
+        ensures { result ≡ length self.now.constraints }
     {
         self.constraints.len()
     }
@@ -112,14 +110,16 @@ impl Design {
     /// The property's bad literal.
     pub fn bad(&self, prop: u32) -> Lit
         requires { prop < length self.now.bads }
-        ensures { slice_get self.now.bads prop ≡ Some result }
+        ensures value { slice_get self.now.bads prop ≡ Some result }
+        ensures known { IsKnown self.now.vars (definitions self.now) result }
     {
         *self.bads.get(prop)
     }
 
     pub fn constraint(&self, at: u32) -> Lit
         requires { at < length self.now.constraints }
-        ensures { slice_get self.now.constraints at ≡ Some result }
+        ensures value { slice_get self.now.constraints at ≡ Some result }
+        ensures known { IsKnown self.now.vars (definitions self.now) result }
     {
         *self.constraints.get(at)
     }

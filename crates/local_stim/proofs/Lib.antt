@@ -1,0 +1,4 @@
+pub mod CheckLemmas
+pub mod RunLemmas
+pub mod StepLemmas
+pub mod VerdictLemmas
