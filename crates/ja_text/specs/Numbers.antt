@@ -1,5 +1,5 @@
 -- Numbers in decimal digits: what their text is, and how one is read from the front of bytes.
-use Rattle.std.specs.Prelude.{◌≡◌, ℕ, ◌+◌, ◌-◌, ◌*◌, ◌<◌, ◌≤◌, min, Bool, false, ◌&&◌, nat_le, if◌then◌else◌, List, [], ◌∷◌, length, Option, Some, None}
+use Rattle.std.specs.Prelude.{◌≡◌, ℕ, ◌+◌, ◌-◌, ◌*◌, ◌<◌, ◌≤◌, min, Bool, false, ◌&&◌, nat_le, if◌then◌else◌, List, [], ◌∷◌, length, slice_index, Option, Some, None}
 use Rattle.std.specs.List.{AllByRecursion}
 use Rattle.ja_text.specs.Forms.{BeginsWith}
 
@@ -28,6 +28,16 @@ pub record IsNumber (text : List ℕ) (n : ℕ) : Type 0 where
   pub some : 0 < length text
   pub digits : AllByRecursion IsDigit text
   pub value : n ≡ saturated (value_of text)
+
+-- no zero stands in front of other digits
+abbrev pub HasNoLeadingZero : List ℕ → Type 0
+HasNoLeadingZero text = slice_index text 0 ≡ 48 → text ≡ 48 ∷ []
+
+-- the one text in which n is written: not saturated, and with no leading zero
+pub record IsCanonical (text : List ℕ) (n : ℕ) : Type 0 where
+  pub number : IsNumber text n
+  pub exact : value_of text ≡ n
+  pub leading : HasNoLeadingZero text
 
 -- no digit stands at the front
 abbrev pub BeginsWithoutDigit : List ℕ → Type 0

@@ -1,7 +1,7 @@
 //! What is read is spelled so, and what is spelled so is read so: each form against its grammar.
 
-ghost use Rattle.std.specs.Prelude.{◌≡◌, ◌≤◌, ◌↔◌, ℕ, List, ◌∷◌, ◌++◌, length, Some, None};
-ghost use Rattle.ja_text.specs.Numbers.{IsNumber, BeginsWithoutDigit, TakesNumber, number_at};
+ghost use Rattle.std.specs.Prelude.{◌≡◌, ◌<◌, ◌≤◌, ◌^◌, ◌↔◌, decimal, ℕ, List, ◌∷◌, ◌++◌, length, Some, None};
+ghost use Rattle.ja_text.specs.Numbers.{IsNumber, IsCanonical, BeginsWithoutDigit, TakesNumber, number_at};
 ghost use Rattle.ja_text.specs.Lines.{IsOneLine, TakesLine, space_at, newline_at, line_at};
 ghost use Rattle.ja_text.specs.Rows.{IsRow, TakesRow, row_at};
 
@@ -10,6 +10,12 @@ pub fn number_is_exact()
     ensures read { (text rest : List ℕ) (n : ℕ) → IsNumber text n → BeginsWithoutDigit rest → number_at (text ++ rest) ≡ Some (n, rest) }
     ensures none { (bytes : List ℕ) → (number_at bytes ≡ None) ↔ BeginsWithoutDigit bytes }
     ensures one { (a b x y : List ℕ) (m n : ℕ) → IsNumber a m → IsNumber b n → BeginsWithoutDigit x → BeginsWithoutDigit y → a ++ x ≡ b ++ y → (m ≡ n) × (x ≡ y) }
+{}
+
+/// A number that is written is read as itself, and `decimal` is the only text of it with no leading zero.
+pub fn decimal_is_exact()
+    ensures number { (n : ℕ) → n < 2 ^ 64 → IsNumber (decimal n) n }
+    ensures canonical { (text : List ℕ) (n : ℕ) → n < 2 ^ 64 → IsCanonical text n ↔ (text ≡ decimal n) }
 {}
 
 pub fn space_is_exact()
