@@ -3,3 +3,5 @@ pub mod Numbers
 pub mod Lines
 pub mod Rows
 pub mod Padded
+pub mod Reading
+pub mod Repeated
