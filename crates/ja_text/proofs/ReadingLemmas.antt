@@ -1,5 +1,6 @@
 -- What a reading that did not fail, or failed, says of its parts.
-use Rattle.std.proofs.Common.{◌≡◌, Bool, true, false, cond, Result, Ok, Err, refl, ap, ◌⊎◌, inl, inr}
+use Rattle.std.proofs.Common.{◌≡◌, Bool, true, false, cond, Option, Some, None, Result, Ok, Err, refl, ap, ◌⊎◌, inl, inr}
+use Rattle.std.specs.Prelude.{ok_or}
 use Rattle.ja_text.specs.Reading.{◌>>=◌}
 
 -- what was read first, where nothing failed
@@ -34,3 +35,12 @@ ok_is x y e = cc
 
 pub err_is : {A F : Type 0} (f g : F) → ◌≡◌ {A = Result A F} (Err f) (Err g) → f ≡ g
 err_is f g e = cc
+
+-- a form that must stand there
+pub ok_or_ok : {A F : Type 0} (o : Option A) (d : F) (x : A) → ok_or o d ≡ Ok x → o ≡ Some x
+ok_or_ok None d x e = absurd cc
+ok_or_ok (Some y) d x e = cc
+
+pub ok_or_err : {A F : Type 0} (o : Option A) (d f : F) → ok_or o d ≡ Err f → (o ≡ None) × (d ≡ f)
+ok_or_err None d f e = (refl, cc)
+ok_or_err (Some y) d f e = absurd cc

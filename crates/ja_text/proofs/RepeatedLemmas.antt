@@ -4,49 +4,57 @@ use Rattle.std.proofs.lemmas.List.{append-nil}
 use Rattle.ja_base.specs.declared.memory.OrMemory.{OrMemory}
 use Rattle.ja_base.specs.declared.memory.OrMemory.TheVariants as or_memory
 use Rattle.ja_text.specs.Reading.{◌>>=◌, Fails}
-use Rattle.ja_text.specs.Repeated.{repeated, Chain, with_front, FailsBehind}
+use Rattle.ja_text.specs.Repeated.{repeated, Chain, with_front, IsUnderway, FailsBehind}
 use Rattle.ja_text.proofs.ReadingLemmas.{bind_ok, bind_err, ok_is}
 
 ok_not_err : {A F : Type 0} (x : A) (f : F) → ◌≡◌ {A = Result A F} (Ok x) (Err f) → ⊥
 ok_not_err x f e = cc
 
-module _ {S X F : Type 0} (step : S → Result (X × S) F) where
-  -- ---- as a loop goes: front has the items of the first i steps, and s is the state behind them
+-- ---- as a loop goes
 
-  regroup : (front : List X) (x : X) (read : Result (List X × S) F) → with_front front (read >>= λ r. Ok (x ∷ r.0, r.1)) ≡ with_front (front ++ x ∷ []) read
-  regroup front x (Ok r) = ap (λ (xs : List X). Ok (xs, r.1)) (sym (append_assoc front (x ∷ []) r.0))
-  regroup front x (Err f) = refl
+regroup : {S X F : Type 0} (front : List X) (x : X) (read : Result (List X × S) F) → with_front front (read >>= λ r. Ok (x ∷ r.0, r.1)) ≡ with_front (front ++ x ∷ []) read
+regroup {X} front x (Ok r) = ap (λ (xs : List X). Ok (xs, r.1)) (sym (append_assoc front (x ∷ []) r.0))
+regroup front x (Err f) = refl
+
+no_front : {S X F : Type 0} (read : Result (List X × S) F) → with_front [] read ≡ read
+no_front (Ok r) = refl
+no_front (Err f) = refl
+
+module _ {S X F : Type 0} {step : S → Result (X × S) F} where
+  -- no step was made
+  pub begins : (count : ℕ) (start : S) → IsUnderway step count start 0 [] start
+  begins count start = record { whole = no_front (repeated step (count - 0) start) ∙ ap (λ (n : ℕ). repeated step n start) (omega arith) }
 
   -- one more step was made
-  pub goes_on : (front : List X) (count i : ℕ) (s t : S) (x : X) (total : Result (List X × S) F) → i < count → step s ≡ Ok (x, t)
-      → with_front front (repeated step (count - i) s) ≡ total → with_front (front ++ x ∷ []) (repeated step (count - (i + 1)) t) ≡ total
+  pub goes_on : {count i : ℕ} {start s t : S} {front : List X} {x : X} → IsUnderway step count start i front s → i < count → step s ≡ Ok (x, t)
+      → IsUnderway step count start (i + 1) (front ++ x ∷ []) t
   unfolding repeated
-  goes_on front count i s t x total lt h so_far =
+  goes_on {count} {i} {start} {s} {t} {front} {x} so_far lt h =
       let left : count - i ≡ suc (count - (i + 1)) = omega arith in
       let one : with_front front (repeated step (count - i) s) ≡ with_front (front ++ x ∷ []) (repeated step (count - (i + 1)) t) = rw (left, h) (regroup front x (repeated step (count - (i + 1)) t)) in
-      sym one ∙ so_far
+      record { whole = sym one ∙ so_far.whole }
 
-  -- a step failed, and so does the whole
-  pub ends : (e : OrMemory F) (front : List X) (count i : ℕ) (s : S) (total : Result (List X × S) F) → i < count → Fails e (step s)
-      → with_front front (repeated step (count - i) s) ≡ total → Fails e total
+  -- a step failed, and so do all
+  pub ends : (e : OrMemory F) {count i : ℕ} {start s : S} {front : List X} → IsUnderway step count start i front s → i < count → Fails e (step s)
+      → Fails e (repeated step count start)
   unfolding repeated
-  ends or_memory.Memory front count i s total lt h so_far = tt
-  ends (or_memory.Refused f) front count i s total lt h so_far =
+  ends or_memory.Memory so_far lt h = tt
+  ends (or_memory.Refused f) {count} {i} {start} {s} {front} so_far lt h =
       let left : count - i ≡ suc (count - (i + 1)) = omega arith in
       let one : with_front front (repeated step (count - i) s) ≡ Err f = rw (left, h) refl in
-      sym so_far ∙ one
+      sym so_far.whole ∙ one
 
   -- all steps were made
-  pub is_done : (front : List X) (count i : ℕ) (s : S) (total : Result (List X × S) F) → count ≤ i
-      → with_front front (repeated step (count - i) s) ≡ total → total ≡ Ok (front, s)
+  pub is_done : {count i : ℕ} {start s : S} {front : List X} → IsUnderway step count start i front s → count ≤ i → repeated step count start ≡ Ok (front, s)
   unfolding repeated
-  is_done front count i s total le so_far =
+  is_done {count} {i} {start} {s} {front} so_far le =
       let left : count - i ≡ 0 = omega arith in
       let one : with_front front (repeated step (count - i) s) ≡ Ok (front, s) = rw left (ap (λ (xs : List X). Ok (xs, s)) (append-nil front)) in
-      sym so_far ∙ one
+      sym so_far.whole ∙ one
 
-  -- ---- as a whole
+-- ---- as a whole
 
+module _ {S X F : Type 0} (step : S → Result (X × S) F) where
   takes_next : (P : S → X → S → Type 0) (I : S → Type 0) (n : ℕ) (s : S) (x : X) (u : S) (ys : List X) (v : S) (xs : List X) (t : S)
       → P s x u → Chain P u ys v → I v → length ys ≡ n → ◌≡◌ {A = Result (List X × S) F} (Ok (x ∷ ys, v)) (Ok (xs, t)) → Chain P s xs t × I t × (length xs ≡ suc n)
   takes_next P I n s x u ys v xs t p c i len e =
