@@ -3,14 +3,19 @@
 #![tactic(auto)]
 
 mod bytes;
+mod cursor;
 mod laws;
 mod numbers;
 mod text;
 
 pub use bytes::{line, newline, number, space};
+pub use cursor::{Bad, Cursor};
 pub use laws::{
     decimal_is_exact, line_is_exact, newline_is_exact, number_is_exact, row_is_exact,
     space_is_exact,
 };
 pub use numbers::{Numbers, row};
 pub use text::Text;
+
+#[cfg(test)]
+mod tests;
