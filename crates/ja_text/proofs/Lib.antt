@@ -1,0 +1,6 @@
+pub mod NumberLemmas
+pub mod LineLemmas
+pub mod RowLemmas
+pub mod DecimalLemmas
+pub mod ReadingLemmas
+pub mod RepeatedLemmas
