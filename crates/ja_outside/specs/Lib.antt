@@ -3,3 +3,4 @@ pub mod Files
 pub mod InMemory
 pub mod Shelf
 pub mod Sink
+pub mod Whole

@@ -9,9 +9,14 @@ mod mem_sink;
 mod plan;
 mod shelf;
 mod sink;
+mod whole;
+
+#[cfg(test)]
+mod tests;
 
 pub use failed::Failed;
 pub use mem_shelf::MemShelf;
 pub use mem_sink::MemSink;
 pub use shelf::Shelf;
 pub use sink::Sink;
+pub use whole::{Whole, read_whole, write_whole};

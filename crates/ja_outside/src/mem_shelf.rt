@@ -72,6 +72,12 @@ impl MemShelf {
             },
         }
     }
+
+    pub fn faults(&self) -> u64
+        ensures { result ≡ self.now.faults }
+    {
+        self.plan.faults
+    }
 }
 
 impl Shelf for MemShelf {
@@ -91,7 +97,7 @@ impl Shelf for MemShelf {
         ensures later { self.old.faults ≤ self.new.faults }
     {
         self.selected = None;
-        if self.plan.is_next_to_fail() {
+        if self.plan.count_call() {
             return Err(Failed);
         }
         match place_of(self.files.as_slice(), name) {
@@ -114,7 +120,7 @@ impl Shelf for MemShelf {
         ensures err { OnErr result (self.new.left ≡ self.old.left) }
         ensures later { self.old.faults ≤ self.new.faults }
     {
-        if self.plan.is_next_to_fail() {
+        if self.plan.count_call() {
             return Err(Failed);
         }
         let place = self.selected.unwrap();

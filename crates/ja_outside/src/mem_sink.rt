@@ -45,6 +45,12 @@ impl MemSink {
     {
         self.bytes.as_slice()
     }
+
+    pub fn faults(&self) -> u64
+        ensures { result ≡ self.now.faults }
+    {
+        self.faults
+    }
 }
 
 impl Sink for MemSink {

@@ -13,8 +13,8 @@ pub(crate) struct Plan {
 }
 
 impl Plan {
-    /// Counts a call, and its fault where it is to fail.
-    pub(crate) fn is_next_to_fail(&mut self) -> bool
+    /// Counts a call, and says whether it is to fail.
+    pub(crate) fn count_call(&mut self) -> bool
         ensures answer { result ≡ list_any (λ n. n == self.old.calls) self.old.fails.items }
         ensures calls { self.new.calls ≡ next_count self.old.calls }
         ensures faults { self.new.faults ≡ (if result then next_count self.old.faults else self.old.faults) }
