@@ -1,5 +1,5 @@
 -- Files that are read, and bytes that are written, in pieces.
-use Rattle.std.proofs.Common.{◌≡◌, ℕ, ◌+◌, ◌<◌, ◌≤◌, List, [], ◌++◌, length, take, drop, Option, Some, None, sym, ap, ◌∙◌, append_assoc, length-append, length-take-le, arith}
+use Rattle.std.proofs.Common.{ℕ, ◌+◌, ◌<◌, ◌≤◌, List, ◌++◌, length, take, drop, Option, Some, None, sym, ap, ◌∙◌, append_assoc, length-append, length-take-le, arith}
 use Rattle.std.proofs.Math.Seq.{take-add}
 use Rattle.ja_outside.specs.Shelf.{IsTaken, Moves, TakesOver, TakesWithin}
 use Rattle.ja_outside.specs.Sink.{Appends}

@@ -1,5 +1,5 @@
 -- The files of a shelf in memory, as its fields hold them.
-use Rattle.std.specs.Prelude.{ℕ, ◌<◌, ◌≤◌, List, length, map, drop, Option, Some, None, option_map, option_and_then, slice_get, IsSomeAnd, String, string_bytes, Vec, ⊤}
+use Rattle.std.specs.Prelude.{ℕ, ◌≤◌, List, length, map, drop, Option, Some, None, option_map, slice_get, IsSomeAnd, String, string_bytes, Vec, ⊤}
 use Rattle.std.specs.declared.alloc.Global.{Global}
 use Rattle.ja_outside.specs.declared.mem_shelf.Place.{Place}
 

@@ -28,7 +28,7 @@ abbrev pub after_call : ShelfInMemory → Option (List ℕ) → ShelfInMemory
 after_call shelf left = record shelf {
   left = left;
   calls = next_count shelf.calls;
-  faults = if is_to_fail shelf then next_count shelf.faults else shelf.faults
+  faults = if is_to_fail shelf then next_count shelf.faults else shelf.faults;
 }
 
 -- what is left when a name was selected
@@ -50,5 +50,5 @@ abbrev pub wrote : SinkInMemory → List ℕ → SinkInMemory
 wrote sink piece = record {
   bytes = sink.bytes ++ take sink.room piece;
   room = sink.room - length piece;
-  faults = if is_full sink piece then next_count sink.faults else sink.faults
+  faults = if is_full sink piece then next_count sink.faults else sink.faults;
 }

@@ -9,10 +9,9 @@ mod mem_sink;
 mod plan;
 mod shelf;
 mod sink;
-mod whole;
-
 #[cfg(test)]
 mod tests;
+mod whole;
 
 pub use failed::Failed;
 pub use mem_shelf::MemShelf;

@@ -34,12 +34,12 @@ impl Model for MemShelf {
     ghost use Rattle.ja_outside.specs.Files.{files_of, left_at, IsWithin};
 
     ghost view = { λ a. record {
-        files = files_of a.files.items;
-        left = left_at a.files.items a.selected;
-        piece = a.piece;
-        fails = a.plan.fails.items;
-        calls = a.plan.calls;
-        faults = a.plan.faults
+      files = files_of a.files.items;
+      left = left_at a.files.items a.selected;
+      piece = a.piece;
+      fails = a.plan.fails.items;
+      calls = a.plan.calls;
+      faults = a.plan.faults;
     } };
 
     ghost invariant = { λ a. (0 < a.piece) × IsWithin a.files.items a.selected };
@@ -53,12 +53,12 @@ impl MemShelf {
     pub fn new(files: Vec<(String, Vec<u8>)>, piece: usize, fails: Vec<u64>) -> MemShelf
         requires { 0 < piece }
         ensures { result ≡ record {
-            files = files_of files.items;
-            left = None;
-            piece = piece;
-            fails = fails.items;
-            calls = 0;
-            faults = 0
+          files = files_of files.items;
+          left = None;
+          piece = piece;
+          fails = fails.items;
+          calls = 0;
+          faults = 0;
         } }
     {
         MemShelf {

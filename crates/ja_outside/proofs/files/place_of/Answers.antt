@@ -1,5 +1,4 @@
 use Rattle.std.proofs.Common.{◌≡◌, ℕ, zero, suc, ◌<◌, true, List, [], ◌∷◌, length, get_or, drop, bytes_eq, String, string_bytes, Vec, refl, arith, rules, ◌∙◌}
-use Rattle.std.proofs.lemmas.Grind.{common_steps}
 use Rattle.std.specs.declared.alloc.Global.{Global}
 use Rattle.ja_outside.specs.Files.{files_of, content_at}
 use Rattle.ja_outside.specs.InMemory.{file_of}
