@@ -2,14 +2,14 @@
 
 ghost use Rattle.std.specs.Prelude.{◌≡◌, ℕ, ◌≤◌, ◌⊎◌, Bool, List, Option, length, is_ok, IsTrue, IfOk, OnOk, OnErr};
 ghost use Rattle.ja_outside.specs.Faults.{Rose};
-ghost use Rattle.ja_outside.specs.Shelf.{Selects, Lacks, Moves};
+ghost use Rattle.ja_outside.specs.Shelf.{Held, Selects, Lacks, Moves};
 
 use crate::failed::Failed;
 
 /// Files under names. A name that is selected is then read piece by piece, from its first byte on.
 pub trait Shelf {
     /// What each name holds, where the shelf tells. No call changes it.
-    ghost holds: { Self → Option (List ℕ → Option (List ℕ)) };
+    ghost holds: { Self → Held };
 
     /// What is left of the selected file, where the shelf tells.
     ghost left: { Self → Option (List ℕ) };
@@ -23,7 +23,8 @@ pub trait Shelf {
         ensures kept { holds self.new ≡ holds self.old }
         ensures selected { is_selected self.new ≡ is_ok result }
         ensures ok { OnOk result (Selects (holds self.old) name.now (left self.new)) }
-        ensures failed { OnErr result (Rose (faults self.old) (faults self.new) ⊎ Lacks (holds self.old) name.now) }
+        ensures failed { OnErr result
+            (Rose (faults self.old) (faults self.new) ⊎ Lacks (holds self.old) name.now) }
         ensures later { faults self.old ≤ faults self.new };
 
     /// Moves the next bytes to the front of `buf`. What the rest of `buf` then has is not said.

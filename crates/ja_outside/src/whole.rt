@@ -31,7 +31,8 @@ pub fn read_whole<F: Shelf>(alloc: Global, shelf: &mut F, name: &str, limit: u64
     ensures too_large { OnTooLarge result (IsLonger (F.holds shelf.old) name.now limit) }
     ensures exact { MatchTooLarge result
         (TakesOver (F.holds shelf.old) name.now (F.left shelf.new) limit)
-        (IsTrue (F.is_selected shelf.new) → TakesWithin (F.holds shelf.old) name.now (F.left shelf.new) limit) }
+        (IsTrue (F.is_selected shelf.new)
+        → TakesWithin (F.holds shelf.old) name.now (F.left shelf.new) limit) }
     ensures failed { OnFailed result
         (Rose (F.faults shelf.old) (F.faults shelf.new) ⊎ Lacks (F.holds shelf.old) name.now) }
     ensures later { F.faults shelf.old ≤ F.faults shelf.new }

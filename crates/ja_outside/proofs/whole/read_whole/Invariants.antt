@@ -12,7 +12,6 @@ invariant-loop-bytes g l =
       taken : IsTaken (shelf.holds l.fn.shelf) l.name l.bytes.items (shelf.left l.shelf);
       within : length l.bytes.items ≤ l.limit;
       later : shelf.faults l.fn.shelf ≤ shelf.faults l.shelf;
-      width : length l.piece ≡ 65536;
     }
 
 abbrev pub decreases-loop-bytes : goal.decreases-loop-bytes
