@@ -1,3 +1,4 @@
 pub mod Verdict
 pub mod StimulusText
+pub mod StimulusReading
 pub mod FirstFault

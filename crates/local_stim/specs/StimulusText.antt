@@ -1,6 +1,5 @@
 -- The text of a stimulus, as AIGER 1.9 tools print a counterexample of a bad-state property.
 use Rattle.std.specs.Prelude.{◌≡◌, ℕ, ◌<◌, ◌≤◌, ◌⊎◌, Bool, true, false, ⊤, List, [], ◌∷◌, ◌++◌, length, All}
-use Rattle.std.specs.List.{flat_map}
 use Rattle.ja_text.specs.Numbers.{IsNumber}
 use Rattle.ja_base.specs.Runs.{Trace}
 use Rattle.aig_model.specs.Netlist.{Netlist}

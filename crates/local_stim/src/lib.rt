@@ -2,10 +2,13 @@
 //! `specs/Verdict`.
 #![tactic(auto)]
 
+mod lines;
 mod read;
+mod refusal;
 mod replay;
 mod verdict;
 
-pub use read::{StimRefusal, read_stim};
+pub use read::read_stim;
+pub use refusal::StimRefusal;
 pub use replay::confirm;
 pub use verdict::Confirm;
