@@ -4,8 +4,8 @@ use Rattle.aiger_lines.specs.declared.refusal.Large.{Large}
 use Rattle.aiger_lines.specs.declared.refusal.Large.TheVariants.{File, Vars, Props, Lines}
 use Rattle.aiger_lines.specs.declared.refusal.ReadRefusal.{ReadRefusal}
 use Rattle.aiger_lines.specs.declared.refusal.ReadRefusal.TheVariants as design
-use Rattle.local_stim.specs.declared.read.StimRefusal.{StimRefusal}
-use Rattle.local_stim.specs.declared.read.StimRefusal.TheVariants as stimulus
+use Rattle.local_stim.specs.declared.refusal.StimRefusal.{StimRefusal}
+use Rattle.local_stim.specs.declared.refusal.StimRefusal.TheVariants as stimulus
 use Rattle.local_stim.specs.declared.verdict.Confirm.{Confirm}
 use Rattle.local_stim.specs.declared.verdict.Confirm.TheVariants.{Local, NotInitial, Constraint, NotBad, Assumed}
 use Rattle.jasign_run.specs.declared.outcome.Outcome.{Outcome}

@@ -17,8 +17,8 @@ use Rattle.aiger_ascii.specs.FirstFault as ascii
 use Rattle.local_stim.specs.StimulusText.{IsStimulusText}
 use Rattle.local_stim.specs.FirstFault as stimulus
 use Rattle.local_stim.specs.Verdict.{IsVerdict}
-use Rattle.local_stim.specs.declared.read.StimRefusal.{StimRefusal}
-use Rattle.local_stim.specs.declared.read.StimRefusal.TheVariants as stimulus_refusals
+use Rattle.local_stim.specs.declared.refusal.StimRefusal.{StimRefusal}
+use Rattle.local_stim.specs.declared.refusal.StimRefusal.TheVariants as stimulus_refusals
 use Rattle.local_stim.specs.declared.verdict.Confirm.{Confirm}
 use Rattle.jasign_run.specs.declared.outcome.Outcome.{Outcome}
 use Rattle.jasign_run.specs.declared.outcome.Outcome.TheVariants.{Replayed, DesignRefused, StimulusRefused, Usage, Outside, Memory}

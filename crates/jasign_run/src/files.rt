@@ -33,9 +33,7 @@ pub fn design_of<F: Shelf>(alloc: Global, shelf: &mut F, name: &str) -> Result<D
             Err(OrMemory::Refused(refusal)) => Err(Outcome::DesignRefused(refusal)),
             Err(OrMemory::Memory) => Err(Outcome::Memory),
         },
-        Whole::TooLarge => Err(Outcome::DesignRefused(ReadRefusal::TooLarge {
-            what: Large::File,
-        })),
+        Whole::TooLarge => Err(Outcome::DesignRefused(ReadRefusal::TooLarge { what: Large::File })),
         Whole::Failed => Err(Outcome::Outside),
         Whole::Memory => Err(Outcome::Memory),
     }

@@ -14,3 +14,6 @@ pub use confirm::confirm_run;
 pub use ending::memory_run;
 pub use outcome::Outcome;
 pub use run::{Ran, jasign_run};
+
+#[cfg(test)]
+mod tests;

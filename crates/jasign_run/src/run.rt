@@ -19,7 +19,12 @@ pub struct Ran {
 }
 
 /// Does what the words say, which are those of a command line without the program's name, and writes one line.
-pub fn jasign_run<F: Shelf, K: Sink>(alloc: Global, words: &[String], shelf: &mut F, out: &mut K) -> Ran
+pub fn jasign_run<F: Shelf, K: Sink>(
+    alloc: Global,
+    words: &[String],
+    shelf: &mut F,
+    out: &mut K,
+) -> Ran
     ensures kept { F.holds shelf.new ≡ F.holds shelf.old }
     ensures means { (o : Outcomes)
         × Means (F.holds shelf.old) (F.faults shelf.old) (F.faults shelf.new) (map string_bytes words.now) o
