@@ -323,7 +323,7 @@ fn refusals(rt: HostRuntime) -> Result<(), Fail> {
     Ok(())
 }
 
-/// The calls on the shelf, from 0: the design is selected, read by 8, 8, 8, 6 and 0 bytes, the stimulus selected, read by
+/// The calls on the shelf, from 0: the design is selected, read by 8, 8, 8, 4 and 0 bytes, the stimulus selected, read by
 /// 8, 4 and 0.
 #[test]
 fn each_call_on_the_shelf_fails(rt: HostRuntime) -> Result<(), Fail> {
