@@ -3,8 +3,11 @@ use Rattle.std.proofs.Common.{◌≡◌, ℕ, suc, ◌+◌, Bool, true, false, n
 use Rattle.std.specs.List.{position_or_len}
 use Rattle.std.proofs.lemmas.Bool.Decides.{nat_tests}
 use Rattle.std.proofs.lemmas.Bool.{eqb-false}
-use Rattle.std.proofs.lemmas.Option.{same_Some, some_pair_parts}
-use Rattle.ja_text.specs.Lines.{byte_at, IsOneLine, TakesLine, line_at}
+use Rattle.std.specs.Str.{bytes_eq}
+use Rattle.std.proofs.lemmas.Slice.Eq.{bytes_eq-Decides}
+use Rattle.std.proofs.lemmas.List.{take_at, drop_at, take-append-drop}
+use Rattle.std.proofs.lemmas.Option.{same_Some, cond_some, some_pair_parts}
+use Rattle.ja_text.specs.Lines.{byte_at, IsOneLine, TakesLine, word_at, line_at}
 
 abbrev pub is_newline : ℕ → Bool
 is_newline b = eqb b 10
@@ -46,6 +49,21 @@ byte_takes b (c ∷ cs) rest h = byte_is b c cs rest (eqb c b) refl h
 
 pub byte_again : (b : ℕ) (rest : List ℕ) → byte_at b (b ∷ rest) ≡ Some rest
 byte_again b rest = rw (eq-eqb b b refl) refl
+
+-- ---- a word
+
+pub word_takes : (word bytes rest : List ℕ) → word_at word bytes ≡ Some rest → bytes ≡ word ++ rest
+unfolding word_at
+word_takes word bytes rest h =
+    let some = cond_some (bytes_eq word (take (length word) bytes)) (drop (length word) bytes) rest h in
+    let front : word ≡ take (length word) bytes = (bytes_eq-Decides word (take (length word) bytes)).0 some.0 in
+    sym (take-append-drop (length word) bytes) ∙ ap (λ (k : List ℕ). k ++ drop (length word) bytes) (sym front) ∙ ap (λ (k : List ℕ). word ++ k) some.1
+
+pub word_again : (word rest : List ℕ) → word_at word (word ++ rest) ≡ Some rest
+unfolding word_at
+word_again word rest =
+    let same : bytes_eq word word ≡ true = (bytes_eq-Decides word word).1 refl in
+    rw (take_at word rest (length word) refl, drop_at word rest (length word) refl, same) refl
 
 -- ---- a line
 

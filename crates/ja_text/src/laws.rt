@@ -2,7 +2,7 @@
 
 ghost use Rattle.std.specs.Prelude.{◌≡◌, ◌<◌, ◌≤◌, ◌^◌, ◌↔◌, decimal, ℕ, List, ◌∷◌, ◌++◌, length, Some, None};
 ghost use Rattle.ja_text.specs.Numbers.{IsNumber, IsCanonical, BeginsWithoutDigit, TakesNumber, number_at};
-ghost use Rattle.ja_text.specs.Lines.{IsOneLine, TakesLine, space_at, newline_at, line_at};
+ghost use Rattle.ja_text.specs.Lines.{IsOneLine, TakesLine, space_at, newline_at, word_at, line_at};
 ghost use Rattle.ja_text.specs.Rows.{IsRow, TakesRow, row_at};
 
 pub fn number_is_exact()
@@ -24,6 +24,10 @@ pub fn space_is_exact()
 
 pub fn newline_is_exact()
     ensures { (bytes rest : List ℕ) → (newline_at bytes ≡ Some rest) ↔ (bytes ≡ 10 ∷ rest) }
+{}
+
+pub fn word_is_exact()
+    ensures { (word bytes rest : List ℕ) → (word_at word bytes ≡ Some rest) ↔ (bytes ≡ word ++ rest) }
 {}
 
 pub fn line_is_exact()

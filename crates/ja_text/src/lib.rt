@@ -8,7 +8,7 @@ mod laws;
 mod numbers;
 mod text;
 
-pub use bytes::{line, newline, number, space};
+pub use bytes::{line, newline, number, space, word};
 pub use cursor::{Bad, Cursor};
 pub use laws::{
     decimal_is_exact, line_is_exact, newline_is_exact, number_is_exact, row_is_exact,
