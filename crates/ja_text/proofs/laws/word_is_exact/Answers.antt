@@ -1,6 +1,6 @@
 use Rattle.std.proofs.Common.{ap, ◌∙◌}
 use Rattle.ja_text.specs.Lines.{word_at}
-use Rattle.ja_text.proofs.LineLemmas.{word_takes, word_again}
+use Rattle.ja_text.proofs.ByteLemmas.{word_takes, word_again}
 use Rattle.ja_text.proofs.laws.word_is_exact.Goals as goal
 
 pub returns : goal.returns
