@@ -1,3 +1,4 @@
+pub mod ByteLemmas
 pub mod NumberLemmas
 pub mod LineLemmas
 pub mod RowLemmas

@@ -1,10 +1,10 @@
--- What a single byte and a line are, and that each is read as it is spelled.
-use Rattle.std.proofs.Common.{◌≡◌, ℕ, suc, ◌+◌, Bool, true, false, not, cond, eqb, ltb, List, [], ◌∷◌, ◌++◌, length, take, drop, Option, Some, None, option_map, position, refl, sym, ap, subst, ◌∙◌, ◌≢◌, arith, one-add, add-one, eqb-true, eq-eqb}
+-- Where a line ends. A line is read as it is spelled, and what is spelled so is read so.
+use Rattle.std.proofs.Common.{◌≡◌, ℕ, suc, ◌+◌, Bool, true, false, not, cond, eqb, ltb, List, [], ◌∷◌, ◌++◌, length, take, drop, Option, Some, None, option_map, position, refl, sym, ap, subst, ◌∙◌, ◌≢◌, arith, one-add, add-one, eqb-true}
 use Rattle.std.specs.List.{position_or_len}
 use Rattle.std.proofs.lemmas.Bool.Decides.{nat_tests}
 use Rattle.std.proofs.lemmas.Bool.{eqb-false}
 use Rattle.std.proofs.lemmas.Option.{same_Some, some_pair_parts}
-use Rattle.ja_text.specs.Lines.{byte_at, IsOneLine, TakesLine, line_at}
+use Rattle.ja_text.specs.Lines.{IsOneLine, TakesLine, line_at}
 
 abbrev pub is_newline : ℕ → Bool
 is_newline b = eqb b 10
@@ -33,21 +33,6 @@ cut_first (b ∷ bs) = step (eqb b 10) b bs (position_or_len is_newline bs) (cut
 -- the line is cut at the first LF
 pub line_at-position : (bytes : List ℕ) → line_at bytes ≡ option_map (λ at. (take at bytes, drop (at + 1) bytes)) (position is_newline bytes)
 line_at-position bytes = cut_first bytes ∙ sym (mapped (λ (at : ℕ). (take at bytes, drop (at + 1) bytes)) (ltb (position_or_len is_newline bytes) (length bytes)) (position_or_len is_newline bytes))
-
--- ---- a single byte
-
-byte_is : (b c : ℕ) (cs rest : List ℕ) (t : Bool) → t ≡ eqb c b → cond t (Some cs) None ≡ Some rest → c ∷ cs ≡ b ∷ rest
-byte_is b c cs rest true e h = let same : c ≡ b = eqb-true c b (sym e) in cc
-byte_is b c cs rest false e h = absurd cc
-
-pub byte_takes : (b : ℕ) (bytes rest : List ℕ) → byte_at b bytes ≡ Some rest → bytes ≡ b ∷ rest
-byte_takes b [] rest h = absurd cc
-byte_takes b (c ∷ cs) rest h = byte_is b c cs rest (eqb c b) refl h
-
-pub byte_again : (b : ℕ) (rest : List ℕ) → byte_at b (b ∷ rest) ≡ Some rest
-byte_again b rest = rw (eq-eqb b b refl) refl
-
--- ---- a line
 
 line_step : (t : Bool) (b : ℕ) (bs : List ℕ) (o : Option (List ℕ × List ℕ)) (x : List ℕ × List ℕ) → t ≡ eqb b 10 → ((y : List ℕ × List ℕ) → o ≡ Some y → TakesLine bs y.0 y.1)
     → cond t (Some ([], bs)) (option_map (λ l. (b ∷ l.0, l.1)) o) ≡ Some x → TakesLine (b ∷ bs) x.0 x.1

@@ -1,14 +1,15 @@
 -- A row is read as it is spelled, and what is spelled so is read so.
 use Rattle.std.proofs.Common.{◌≡◌, ℕ, zero, suc, ◌+◌, ◌-◌, ◌<◌, ◌≤◌, Bool, true, false, cond, eqb, List, [], ◌∷◌, ◌++◌, length, take, set, replicate, Option, Some, None, option_map, refl, sym, ap, subst, ◌∙◌, ◌⊎◌, inl, inr, arith, append_assoc, length-append, add-one, eqb-true}
+use Rattle.std.specs.List.{AllByRecursion}
 use Rattle.std.proofs.lemmas.Option.{same_Some, option_and_then_some, some_pair_parts}
 use Rattle.std.proofs.lemmas.List.{length-replicate}
 use Rattle.std.proofs.Math.Seq.{set-append_seam, take-suc-set}
-use Rattle.ja_text.specs.Numbers.{IsNumber, TakesNumber, number_at}
-use Rattle.ja_text.specs.Lines.{space_at, newline_at}
+use Rattle.ja_text.specs.Numbers.{IsDigit, IsNumber, TakesNumber, number_at}
+use Rattle.ja_text.specs.Lines.{space_at, newline_at, IsOneLine}
 use Rattle.ja_text.specs.Rows.{IsRow, TakesRow, row_behind, row_at}
 use Rattle.ja_text.specs.Padded.{padded}
 use Rattle.ja_text.proofs.NumberLemmas.{number_takes, number_again}
-use Rattle.ja_text.proofs.LineLemmas.{byte_takes}
+use Rattle.ja_text.proofs.ByteLemmas.{space_takes, newline_takes}
 
 -- ---- what is read is spelled so
 
@@ -80,6 +81,24 @@ row_one a b x y ms ns g h e =
     let most = length ms + length ns in
     some_pair_parts ms ns x y (sym (row_again most a ms x g (omega arith)) ∙ ap (row_at most) e ∙ row_again most b ns y h (omega arith))
 
+-- ---- a row is a line
+
+digits_in_line : (text : List ℕ) → AllByRecursion IsDigit text → IsOneLine text
+digits_in_line [] h = tt
+digits_in_line (d ∷ ds) h = (omega arith, digits_in_line ds h.1)
+
+IsOneLine-append : (a b : List ℕ) → IsOneLine a → IsOneLine b → IsOneLine (a ++ b)
+IsOneLine-append [] b g h = h
+IsOneLine-append (x ∷ xs) b g h = (g.0, IsOneLine-append xs b g.1 h)
+
+pub row_line : (text ns : List ℕ) → IsRow text ns → (line : List ℕ) × IsOneLine line × (text ≡ line ++ 10 ∷ [])
+row_line text [] h = absurd h
+row_line text (n ∷ []) h = (h.0, digits_in_line h.0 h.1.digits, h.2)
+row_line text (n ∷ m ∷ ns) h =
+    let others = row_line h.1 (m ∷ ns) h.4 in
+    let one_line : IsOneLine (h.0 ++ 32 ∷ others.0) = IsOneLine-append h.0 (32 ∷ others.0) (digits_in_line h.0 h.2.digits) (omega arith, others.1) in
+    (h.0 ++ 32 ∷ others.0, one_line, h.3 ∙ ap (λ (k : List ℕ). h.0 ++ 32 ∷ k) others.2 ∙ sym (append_assoc h.0 (32 ∷ others.0) (10 ∷ [])))
+
 -- ---- reading number after number, as a loop does
 
 -- the numbers before, and those of the row that is still read
@@ -100,17 +119,15 @@ regroup front n (Some r) = ap (λ (ns : List ℕ). Some (ns, r.1)) (sym (append_
 -- a number and a space are read
 pub row_goes_on : (front : List ℕ) (place : ℕ) (bytes : List ℕ) (n : ℕ) (after rest : List ℕ) (total : Option (List ℕ × List ℕ)) → place < 9 → number_at bytes ≡ Some (n, after) → space_at after ≡ Some rest
     → with_numbers front (row_at (9 - place) bytes) ≡ total → with_numbers (front ++ n ∷ []) (row_at (9 - (place + 1)) rest) ≡ total
-unfolding space_at
 row_goes_on front place bytes n after rest total lt read next so_far =
-    let one : row_behind (row_at (9 - (place + 1))) n after ≡ option_map (λ r. (n ∷ r.0, r.1)) (row_at (9 - (place + 1)) rest) = rw (byte_takes 32 after rest next) refl in
+    let one : row_behind (row_at (9 - (place + 1))) n after ≡ option_map (λ r. (n ∷ r.0, r.1)) (row_at (9 - (place + 1)) rest) = rw (space_takes after rest next) refl in
     sym (regroup front n (row_at (9 - (place + 1)) rest)) ∙ ap (with_numbers front) (sym one) ∙ sym (unread front place bytes n after lt read) ∙ so_far
 
 -- a number and the LF are read
 pub row_ends : (front : List ℕ) (place : ℕ) (bytes : List ℕ) (n : ℕ) (after rest : List ℕ) (total : Option (List ℕ × List ℕ)) → place < 9 → number_at bytes ≡ Some (n, after) → newline_at after ≡ Some rest
     → with_numbers front (row_at (9 - place) bytes) ≡ total → total ≡ Some (front ++ n ∷ [], rest)
-unfolding newline_at
 row_ends front place bytes n after rest total lt read next so_far =
-    let one : row_behind (row_at (9 - (place + 1))) n after ≡ Some (n ∷ [], rest) = rw (byte_takes 10 after rest next) refl in
+    let one : row_behind (row_at (9 - (place + 1))) n after ≡ Some (n ∷ [], rest) = rw (newline_takes after rest next) refl in
     sym so_far ∙ unread front place bytes n after lt read ∙ ap (with_numbers front) one
 
 -- no number is read

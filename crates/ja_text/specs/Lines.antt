@@ -1,6 +1,6 @@
--- A single byte and a line, read from the front of bytes.
-use Rattle.std.specs.Prelude.{◌≡◌, ◌≢◌, ℕ, ◌==◌, if◌then◌else◌, List, [], ◌∷◌, ◌++◌, Option, Some, None, option_map}
-use Rattle.std.specs.List.{AllByRecursion}
+-- A single byte, a word and a line, read from the front of bytes.
+use Rattle.std.specs.Prelude.{◌≡◌, ◌≢◌, ℕ, ◌==◌, if◌then◌else◌, nat_eq, List, [], ◌∷◌, ◌++◌, length, drop, Option, Some, None, option_map}
+use Rattle.std.specs.List.{AllByRecursion, starts_with}
 
 -- what follows the byte
 abbrev pub byte_at : ℕ → List ℕ → Option (List ℕ)
@@ -14,6 +14,10 @@ space_at bytes = byte_at 32 bytes
 -- what follows the LF
 unfoldable pub newline_at : List ℕ → Option (List ℕ)
 newline_at bytes = byte_at 10 bytes
+
+-- what follows the word
+unfoldable pub word_at : List ℕ → List ℕ → Option (List ℕ)
+word_at word bytes = if starts_with nat_eq bytes word then Some (drop (length word) bytes) else None
 
 -- no LF stands in the text
 abbrev pub IsOneLine : List ℕ → Type 0

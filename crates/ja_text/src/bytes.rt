@@ -1,8 +1,8 @@
-//! What stands at the front of bytes: a number, a space, an LF, a line. Each answers what it read and what follows.
+//! What stands at the front of bytes: a number, a space, an LF, a word, a line. Each answers what it read and what follows.
 
-ghost use Rattle.std.specs.Prelude.{◌≡◌, ◌<◌, ◌==◌, IfSome, length, option_map, position};
+ghost use Rattle.std.specs.Prelude.{◌≡◌, ◌+◌, ◌<◌, ◌==◌, IfSome, length, option_map, position};
 ghost use Rattle.ja_text.specs.Numbers.{number_at};
-ghost use Rattle.ja_text.specs.Lines.{space_at, newline_at, line_at};
+ghost use Rattle.ja_text.specs.Lines.{space_at, newline_at, word_at, line_at};
 
 /// The number whose digits stand at the front, all of them. A greater one than 2^64 - 1 is answered as that.
 #[tactic(auto, unfolding(crate::specs::Numbers::number_at))]
@@ -43,6 +43,19 @@ pub fn newline(bytes: &[u8]) -> Option<&[u8]>
     match bytes {
         [b'\n', rest @ ..] => Some(rest),
         _ => None,
+    }
+}
+
+/// What follows the word, which stands at the front byte for byte.
+#[tactic(auto, unfolding(crate::specs::Lines::word_at))]
+pub fn word<'a>(bytes: &'a [u8], word: &[u8]) -> Option<&'a [u8]>
+    ensures read { word_at word.now bytes.now ≡ option_map (λ x. x.now) result }
+    ensures taken { IfSome result (λ x. length x.now + length word.now ≡ length bytes.now) }
+{
+    if bytes.starts_with(word) {
+        Some(&bytes[word.len()..])
+    } else {
+        None
     }
 }
 

@@ -1,4 +1,4 @@
-use crate::{Bad, Cursor, Text, line, number, row};
+use crate::{Bad, Cursor, Text, line, number, row, word};
 use std::test::Fail;
 
 #[test]
@@ -70,6 +70,24 @@ fn lines_that_are_read(rt: HostRuntime) {
     ];
     for (bytes, want) in table {
         assert_eq!(rt; line(bytes), want, "at {bytes:?}");
+    }
+}
+
+#[test]
+fn words_that_are_read(rt: HostRuntime) {
+    let table: [(&[u8], &[u8], Option<usize>); 5] = [
+        (b"hold b3", b"hold b", Some(1)),
+        (b"hold b", b"hold b", Some(0)),
+        (b"hold", b"hold b", None),
+        (b"Hold b3", b"hold b", None),
+        (b"x", b"", Some(1)),
+    ];
+    for (bytes, letters, want) in table {
+        assert_eq!(rt;
+            word(bytes, letters).map(|rest| rest.len()),
+            want,
+            "at {bytes:?}"
+        );
     }
 }
 
