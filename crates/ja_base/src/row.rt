@@ -1,6 +1,6 @@
 //! Rows of bits, and lists of rows.
 
-ghost use Rattle.std.specs.Prelude.{◌≡◌, ℕ, ◌^◌, ◌<◌, [], ◌∷◌, ◌++◌, Bool, true, false, List, length, replicate, slice_set, slice_get, Some, IfOk, OnOk, OnErr};
+ghost use Rattle.std.specs.Prelude.{◌≡◌, ℕ, ◌^◌, ◌<◌, [], ◌∷◌, ◌++◌, Bool, true, false, List, length, replicate, slice_set, slice_get, Some, IfOk, OnOk, OnErr, vec_len};
 ghost use Rattle.ja_base.specs.Literals.{bit};
 
 use crate::memory::Memory;
@@ -31,6 +31,14 @@ impl Row {
         Ok(Row {
             bits: vec![in alloc; false; len as usize]?,
         })
+    }
+
+    /// These bits in order.
+    pub fn from_bits(bits: Vec<bool>) -> Row
+        requires { vec_len bits < 2 ^ 32 }
+        ensures { result ≡ bits.items }
+    {
+        Row { bits }
     }
 
     /// `len` bits, each 1.

@@ -2,3 +2,4 @@ pub mod CheckLemmas
 pub mod RunLemmas
 pub mod StepLemmas
 pub mod VerdictLemmas
+pub mod RowLemmas

@@ -1,2 +1,5 @@
 pub mod Verdict
 pub mod Steps
+pub mod StimulusText
+pub mod StimulusReading
+pub mod FirstFault

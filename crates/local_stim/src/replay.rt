@@ -18,7 +18,7 @@ use std::alloc::Global;
 
 /// Whether the stimulus is a local failure of the property, or the first reason why not.
 pub fn confirm(alloc: Global, task: &Task, prop: u32, stim: &Stimulus) -> Result<Confirm, Memory>
-    requires prop { prop < length task.now.design.bads }
+    requires property { prop < length task.now.design.bads }
     requires first { length stim.now.first ≡ length task.now.design.latches }
     requires rows { All (λ row. length row ≡ length task.now.design.inputs) stim.now.inputs }
     ensures verdict { IfOk result (IsVerdict (problem task.now) prop stim.now) }
@@ -30,7 +30,7 @@ pub fn confirm(alloc: Global, task: &Task, prop: u32, stim: &Stimulus) -> Result
 }
 
 fn replay(alloc: Global, task: &Task, prop: u32, stim: &Stimulus) -> Result<Confirm, Memory>
-    requires prop { prop < length task.now.design.bads }
+    requires property { prop < length task.now.design.bads }
     requires first { length stim.now.first ≡ length task.now.design.latches }
     requires rows { All (λ row. length row ≡ length task.now.design.inputs) stim.now.inputs }
     ensures verdict { IfOk result (IsVerdict (problem task.now) prop stim.now) }
@@ -55,7 +55,7 @@ fn take_last(
     broken: Option<Broken>,
 ) -> Confirm
     requires sound { IsSound task.now.design }
-    requires prop { prop < length task.now.design.bads }
+    requires property { prop < length task.now.design.bads }
     requires initial { IsInitial (circuit task.now.design) stim.now.first }
     requires rows { All (λ row. length row ≡ length task.now.design.inputs) stim.now.inputs }
     requires fits { Fits (circuit task.now.design) runner.old }

@@ -1,0 +1,67 @@
+#!/usr/bin/env python3
+"""Writes the designs and stimuli of the yardsticks into a folder. The same call always writes the same bytes."""
+import random
+import sys
+from pathlib import Path
+
+
+def design(inputs, latches, gates, order="forward", seed=1):
+    """A random and-inverter graph: each gate reads two earlier variables, each latch the last gates."""
+    chance = random.Random(seed)
+    first_gate = 1 + inputs + latches
+    top = inputs + latches + gates
+    lines = [f"aag {top} {inputs} {latches} 0 {gates} 2"]
+    lines += [str(2 * (1 + at)) for at in range(inputs)]
+    for at in range(latches):
+        lines.append(f"{2 * (1 + inputs + at)} {2 * (top - at % max(gates, 1)) + at % 2}")
+    lines += [str(2 * top), str(2 * (top - 1) + 1)]
+    body = []
+    for at in range(gates):
+        var = first_gate + at
+        left, right = (2 * chance.randrange(1, var) + chance.randrange(2) for _ in range(2))
+        body.append(f"{2 * var} {left} {right}")
+    if order == "shuffled":
+        chance.shuffle(body)
+    return "\n".join(lines + body) + "\n"
+
+
+def chain(gates, cycle=False):
+    """One input and a chain of gates, the last one first; with a cycle the first gate reads the last one."""
+    top = gates + 1
+    lines = [f"aag {top} 1 0 0 {gates} 1", "2", str(2 * top)]
+    for at in reversed(range(gates)):
+        right = 2 * top if cycle and at == 0 else 2 * (at + 1)
+        lines.append(f"{2 * (at + 2)} {right} {right}")
+    return "\n".join(lines) + "\n"
+
+
+def stimulus(inputs, latches, rows, seed=2):
+    """A stimulus of b0 from the state of zeros."""
+    chance = random.Random(seed)
+    lines = ["1", "b0", "0" * latches]
+    lines += ["".join(chance.choice("01") for _ in range(inputs)) for _ in range(rows)]
+    return "\n".join(lines + ["."]) + "\n"
+
+
+def main(folder):
+    folder.mkdir(parents=True, exist_ok=True)
+    texts = {
+        "gates.aag": design(64, 64, 300_000),
+        "gates.stim": stimulus(64, 64, 1),
+        "shuffled.aag": design(50_000, 50_000, 400_000, "shuffled"),
+        "shuffled.stim": stimulus(50_000, 50_000, 1),
+        "rows.aag": design(32, 32, 1_000),
+        "rows.stim": stimulus(32, 32, 100_000),
+        "chain.aag": chain(100_000),
+        "chain.stim": stimulus(1, 0, 1),
+        "cycle.aag": chain(100_000, cycle=True),
+        "cycle.stim": stimulus(1, 0, 1),
+        "wide.aag": "aag 500000 0 0 0 0 1\n0\n",
+        "wide.stim": stimulus(0, 0, 1),
+    }
+    for name, text in texts.items():
+        (folder / name).write_text(text)
+
+
+if __name__ == "__main__":
+    main(Path(sys.argv[1]))

@@ -1,0 +1,56 @@
+-- The header of an AIGER 1.9 file, and the sizes that this product takes.
+use Rattle.std.specs.Prelude.{◌≡◌, ℕ, ◌+◌, ◌≤◌, ◌==◌, if◌then◌else◌, List, ◌∷◌, ◌++◌, length, slice_index}
+use Rattle.ja_text.specs.Rows.{IsRow}
+
+-- the nine numbers of a header: M I L O A B C J F
+pub record Header : Type 0 where
+  pub vars : ℕ
+  pub inputs : ℕ
+  pub latches : ℕ
+  pub outputs : ℕ
+  pub gates : ℕ
+  pub bads : ℕ
+  pub constraints : ℕ
+  pub justice : ℕ
+  pub fairness : ℕ
+
+-- numbers that are left out are 0
+abbrev pub header_of : List ℕ → Header
+header_of ns = record {
+  vars = slice_index ns 0;
+  inputs = slice_index ns 1;
+  latches = slice_index ns 2;
+  outputs = slice_index ns 3;
+  gates = slice_index ns 4;
+  bads = slice_index ns 5;
+  constraints = slice_index ns 6;
+  justice = slice_index ns 7;
+  fairness = slice_index ns 8
+}
+
+-- the word of the form, then five to nine numbers, each after one space, then LF
+pub record IsHeaderLine (word text : List ℕ) (h : Header) : Type 0 where
+  pub row : List ℕ
+  pub numbers : List ℕ
+  pub text_is : text ≡ word ++ 32 ∷ row
+  pub spelled : IsRow row numbers
+  pub five : 5 ≤ length numbers
+  pub nine : length numbers ≤ 9
+  pub header_is : h ≡ header_of numbers
+
+-- the bads are the properties, and where there are none the outputs
+abbrev pub property_count : Header → ℕ
+property_count h = if h.bads == 0 then h.outputs else h.bads
+
+-- how many variables the sections define
+abbrev pub definition_count : Header → ℕ
+definition_count h = h.inputs + h.latches + h.gates
+
+-- the sizes that are taken
+pub record IsWithinLimits (h : Header) : Type 0 where
+  pub vars : h.vars ≤ 500000
+  pub justice : h.justice ≡ 0
+  pub fairness : h.fairness ≡ 0
+  pub properties : property_count h ≤ 20000
+  pub outputs : h.outputs ≤ 500000
+  pub constraints : h.constraints ≤ 500000

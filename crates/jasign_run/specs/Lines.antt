@@ -1,0 +1,103 @@
+-- The line that each outcome writes, and its status.
+use Rattle.std.specs.Prelude.{ℕ, Option, Some, None, List, [], ◌∷◌, ◌++◌, codes, decimal}
+use Rattle.aiger_lines.specs.declared.refusal.Large.{Large}
+use Rattle.aiger_lines.specs.declared.refusal.Large.TheVariants.{File, Vars, Props, Lines}
+use Rattle.aiger_lines.specs.declared.refusal.ReadRefusal.{ReadRefusal}
+use Rattle.aiger_lines.specs.declared.refusal.ReadRefusal.TheVariants as design
+use Rattle.local_stim.specs.declared.refusal.StimRefusal.{StimRefusal}
+use Rattle.local_stim.specs.declared.refusal.StimRefusal.TheVariants as stimulus
+use Rattle.local_stim.specs.declared.verdict.Confirm.{Confirm}
+use Rattle.local_stim.specs.declared.verdict.Confirm.TheVariants.{Local, NotInitial, Constraint, NotBad, Assumed}
+use Rattle.jasign_run.specs.declared.outcome.Outcome.{Outcome}
+use Rattle.jasign_run.specs.declared.outcome.Outcome.TheVariants.{Replayed, DesignRefused, StimulusRefused, Usage, Outside, Memory}
+
+-- words, and a number behind them or none
+abbrev pub Phrase : Type 0
+Phrase = List ℕ × Option ℕ
+
+abbrev pub number_text : Option ℕ → List ℕ
+number_text None = []
+number_text (Some n) = decimal n
+
+abbrev pub phrase_text : Phrase → List ℕ
+phrase_text phrase = phrase.0 ++ number_text phrase.1
+
+-- what a replay says first, and what it says then; the property and the number of steps are those of the stimulus
+abbrev pub verdict_head : Confirm → ℕ → Phrase
+verdict_head Local prop = (codes "confirmed b", Some prop)
+verdict_head (NotInitial latch) prop = (codes "not confirmed: start latch ", Some latch)
+verdict_head (Constraint step) prop = (codes "not confirmed: constraint at step ", Some step)
+verdict_head NotBad prop = (codes "not confirmed: not bad", None)
+verdict_head (Assumed step broken) prop = (codes "not confirmed: b", Some broken)
+
+abbrev pub verdict_rest : Confirm → ℕ → Phrase
+verdict_rest Local steps = (codes " steps ", Some steps)
+verdict_rest (NotInitial latch) steps = ([], None)
+verdict_rest (Constraint step) steps = ([], None)
+verdict_rest NotBad steps = ([], None)
+verdict_rest (Assumed step broken) steps = (codes " broke at step ", Some step)
+
+abbrev pub large_words : Large → List ℕ
+large_words File = codes "2 too large file"
+large_words Vars = codes "2 too large vars"
+large_words Props = codes "2 too large props"
+large_words Lines = codes "2 too large lines"
+
+-- the number and the words of a refused design
+abbrev pub design_phrase : ReadRefusal → Phrase
+design_phrase (design.Header at) = (codes "1 header at ", Some at)
+design_phrase (design.TooLarge what) = (large_words what, None)
+design_phrase design.Liveness = (codes "3 liveness", None)
+design_phrase (design.Line at) = (codes "4 line at ", Some at)
+design_phrase (design.Range at) = (codes "5 range at ", Some at)
+design_phrase (design.Twice at) = (codes "6 twice at ", Some at)
+design_phrase (design.Undefined var) = (codes "7 undefined var ", Some var)
+design_phrase (design.Cycle var) = (codes "8 cycle var ", Some var)
+design_phrase (design.Symbol at) = (codes "9 symbol at ", Some at)
+design_phrase (design.Short at) = (codes "10 short at ", Some at)
+design_phrase (design.Order at) = (codes "11 order at ", Some at)
+
+-- the number and the words of a refused stimulus
+abbrev pub stimulus_phrase : StimRefusal → Phrase
+stimulus_phrase (stimulus.Line line) = (codes "1 line line ", Some line)
+stimulus_phrase (stimulus.Unknown line) = (codes "2 unknown line ", Some line)
+stimulus_phrase (stimulus.Width line) = (codes "3 width line ", Some line)
+stimulus_phrase (stimulus.Short line) = (codes "4 short line ", Some line)
+stimulus_phrase stimulus.TooLarge = (codes "5 too large", None)
+
+-- each line is two phrases
+abbrev pub head_phrase : Outcome → Phrase
+head_phrase (Replayed verdict prop steps) = verdict_head verdict prop
+head_phrase (DesignRefused refusal) = (codes "fault: design ", None)
+head_phrase (StimulusRefused refusal) = (codes "fault: stimulus ", None)
+head_phrase Usage = (codes "fault: usage", None)
+head_phrase Outside = (codes "fault: outside", None)
+head_phrase Memory = (codes "fault: memory", None)
+
+abbrev pub rest_phrase : Outcome → Phrase
+rest_phrase (Replayed verdict prop steps) = verdict_rest verdict steps
+rest_phrase (DesignRefused refusal) = design_phrase refusal
+rest_phrase (StimulusRefused refusal) = stimulus_phrase refusal
+rest_phrase Usage = ([], None)
+rest_phrase Outside = ([], None)
+rest_phrase Memory = ([], None)
+
+-- the outcome's line, with its LF
+abbrev pub outcome_line : Outcome → List ℕ
+outcome_line outcome = phrase_text (head_phrase outcome) ++ phrase_text (rest_phrase outcome) ++ 10 ∷ []
+
+-- 0 where a stimulus is a local failure, and 1 where it is not
+abbrev pub verdict_status : Confirm → ℕ
+verdict_status Local = 0
+verdict_status (NotInitial latch) = 1
+verdict_status (Constraint step) = 1
+verdict_status NotBad = 1
+verdict_status (Assumed step prop) = 1
+
+abbrev pub outcome_status : Outcome → ℕ
+outcome_status (Replayed verdict prop steps) = verdict_status verdict
+outcome_status (DesignRefused refusal) = 3
+outcome_status (StimulusRefused refusal) = 3
+outcome_status Usage = 4
+outcome_status Outside = 5
+outcome_status Memory = 6

@@ -1,0 +1,150 @@
+//! The lines that are written: a table of words for each kind of answer.
+
+ghost use Rattle.std.specs.Prelude.{◌≡◌, ℕ, ◌∷◌, [], ◌++◌, IfOk, OnOk};
+ghost use Rattle.jasign_run.specs.Lines.{phrase_text, verdict_head, verdict_rest, large_words, design_phrase, stimulus_phrase, head_phrase, rest_phrase, outcome_line};
+
+use crate::outcome::Outcome;
+use aiger_lines::{Large, ReadRefusal};
+use ja_base::Memory;
+use ja_text::Text;
+use local_stim::{Confirm, StimRefusal};
+use std::alloc::Global;
+
+/// Words, and a number behind them or none.
+#[derive(Clone, Copy, Debug)]
+struct Phrase {
+    words: &'static [u8],
+    number: Option<u64>,
+}
+
+fn counted(words: &'static [u8], number: u64) -> Phrase
+    ensures words { result.words.now ≡ words.now }
+    ensures number { result.number ≡ Some number }
+{
+    Phrase {
+        words,
+        number: Some(number),
+    }
+}
+
+fn plain(words: &'static [u8]) -> Phrase
+    ensures words { result.words.now ≡ words.now }
+    ensures number { result.number ≡ None }
+{
+    Phrase {
+        words,
+        number: None,
+    }
+}
+
+fn verdict_head(verdict: Confirm, prop: u32) -> Phrase
+    ensures { (result.words.now, result.number) ≡ verdict_head verdict prop }
+{
+    match verdict {
+        Confirm::Local => counted(b"confirmed b", u64::from(prop)),
+        Confirm::NotInitial { latch } => counted(b"not confirmed: start latch ", u64::from(latch)),
+        Confirm::Constraint { step } => {
+            counted(b"not confirmed: constraint at step ", u64::from(step))
+        }
+        Confirm::NotBad => plain(b"not confirmed: not bad"),
+        Confirm::Assumed { prop, .. } => counted(b"not confirmed: b", u64::from(prop)),
+    }
+}
+
+fn verdict_rest(verdict: Confirm, steps: u32) -> Phrase
+    ensures { (result.words.now, result.number) ≡ verdict_rest verdict steps }
+{
+    match verdict {
+        Confirm::Local => counted(b" steps ", u64::from(steps)),
+        Confirm::Assumed { step, .. } => counted(b" broke at step ", u64::from(step)),
+        Confirm::NotInitial { .. } | Confirm::Constraint { .. } | Confirm::NotBad => plain(b""),
+    }
+}
+
+fn large_words(what: Large) -> &'static [u8]
+    ensures { result.now ≡ large_words what }
+{
+    match what {
+        Large::File => b"2 too large file",
+        Large::Vars => b"2 too large vars",
+        Large::Props => b"2 too large props",
+        Large::Lines => b"2 too large lines",
+    }
+}
+
+fn design_phrase(refusal: &ReadRefusal) -> Phrase
+    ensures { (result.words.now, result.number) ≡ design_phrase refusal.now }
+{
+    match refusal {
+        ReadRefusal::Header { at } => counted(b"1 header at ", *at as u64),
+        ReadRefusal::TooLarge { what } => plain(large_words(*what)),
+        ReadRefusal::Liveness => plain(b"3 liveness"),
+        ReadRefusal::Line { at } => counted(b"4 line at ", *at as u64),
+        ReadRefusal::Range { at } => counted(b"5 range at ", *at as u64),
+        ReadRefusal::Twice { at } => counted(b"6 twice at ", *at as u64),
+        ReadRefusal::Undefined { var } => counted(b"7 undefined var ", u64::from(var.number())),
+        ReadRefusal::Cycle { var } => counted(b"8 cycle var ", u64::from(var.number())),
+        ReadRefusal::Symbol { at } => counted(b"9 symbol at ", *at as u64),
+        ReadRefusal::Short { at } => counted(b"10 short at ", *at as u64),
+        ReadRefusal::Order { at } => counted(b"11 order at ", *at as u64),
+    }
+}
+
+fn stimulus_phrase(refusal: StimRefusal) -> Phrase
+    ensures { (result.words.now, result.number) ≡ stimulus_phrase refusal }
+{
+    match refusal {
+        StimRefusal::Line { line } => counted(b"1 line line ", line),
+        StimRefusal::Unknown { line } => counted(b"2 unknown line ", line),
+        StimRefusal::Width { line } => counted(b"3 width line ", line),
+        StimRefusal::Short { line } => counted(b"4 short line ", line),
+        StimRefusal::TooLarge => plain(b"5 too large"),
+    }
+}
+
+fn head_phrase(outcome: &Outcome) -> Phrase
+    ensures { (result.words.now, result.number) ≡ head_phrase outcome.now }
+{
+    match outcome {
+        Outcome::Replayed { verdict, prop, .. } => verdict_head(*verdict, *prop),
+        Outcome::DesignRefused(_) => plain(b"fault: design "),
+        Outcome::StimulusRefused(_) => plain(b"fault: stimulus "),
+        Outcome::Usage => plain(b"fault: usage"),
+        Outcome::Outside => plain(b"fault: outside"),
+        Outcome::Memory => plain(b"fault: memory"),
+    }
+}
+
+fn rest_phrase(outcome: &Outcome) -> Phrase
+    ensures { (result.words.now, result.number) ≡ rest_phrase outcome.now }
+{
+    match outcome {
+        Outcome::Replayed { verdict, steps, .. } => verdict_rest(*verdict, *steps),
+        Outcome::DesignRefused(refusal) => design_phrase(refusal),
+        Outcome::StimulusRefused(refusal) => stimulus_phrase(*refusal),
+        Outcome::Usage | Outcome::Outside | Outcome::Memory => plain(b""),
+    }
+}
+
+fn push_phrase(text: &mut Text, phrase: &Phrase) -> Result<(), Memory>
+    ensures { OnOk result (text.new ≡ text.old ++ phrase_text (phrase.now.words.now, phrase.now.number)) }
+{
+    text.push(phrase.words)?;
+    if let Some(number) = phrase.number {
+        text.number(number)?;
+    }
+    Ok(())
+}
+
+/// The outcome's line, with its LF.
+pub fn line_of(alloc: Global, outcome: &Outcome) -> Result<Text, Memory>
+    ensures { IfOk result (λ text. text ≡ outcome_line outcome.now) }
+{
+    let mut text = Text::new(alloc);
+    let head = head_phrase(outcome);
+    push_phrase(&mut text, &head)?;
+    let rest = rest_phrase(outcome);
+    push_phrase(&mut text, &rest)?;
+    text.push(b"\n")?;
+    Ok(text)
+}

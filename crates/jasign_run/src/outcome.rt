@@ -1,0 +1,23 @@
+//! What a run comes to.
+
+use aiger_lines::ReadRefusal;
+use local_stim::{Confirm, StimRefusal};
+
+/// What a run comes to, before its line is written.
+#[derive(Clone, Copy, Debug, PartialEq, Eq)]
+pub enum Outcome {
+    /// The stimulus of property `prop`, which has so many steps, was replayed.
+    Replayed {
+        verdict: Confirm,
+        prop: u32,
+        steps: u32,
+    },
+    DesignRefused(ReadRefusal),
+    StimulusRefused(StimRefusal),
+    /// The words are in no command's form.
+    Usage,
+    /// A file could not be read.
+    Outside,
+    /// Memory was wanting.
+    Memory,
+}

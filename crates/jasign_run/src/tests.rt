@@ -1,0 +1,386 @@
+use crate::{confirm_run, jasign_run};
+use ja_outside::{MemShelf, MemSink};
+use std::alloc::{AllocError, Global};
+use std::test::Fail;
+
+/// Two files, and the line and status that `confirm` gives for them. Each line was worked out by hand.
+struct Case {
+    design: &'static [u8],
+    stim: &'static [u8],
+    line: &'static [u8],
+    status: u8,
+}
+
+const TWO_LATCHES: &[u8] = b"aag 2 0 2 0 0 2\n2 1\n4 2\n2\n4\n";
+
+const RING: &[u8] = b"aag 6 0 3 0 3 3\n2 6 1\n4 2\n6 4\n8\n10\n12\n8 4 2\n10 6 4\n12 6 2\n";
+
+const ARBITER: &[u8] =
+    b"aag 6 2 2 1 2 2\n2\n4\n6 2\n8 10\n8\n12\n8\n10 4 3\n12 8 6\ni0 req0\ni1 req1\nl0 gnt0\nl1 gnt1\no0 grant\nb0 mutex\nb1 never\nc\nwritten by a generator\n";
+
+const NEVER: &[u8] = b"aag 1 1 0 0 0 1 1\n2\n2\n0\n";
+
+const OUTPUTS: &[u8] = b"aag 1 0 1 2 0\n2 3\n2\n3\n";
+
+const FREE: &[u8] = b"aag 1 0 1 0 0 1\n2 2 2\n2\n";
+
+const REPLAYS: [Case; 16] = [
+    Case {
+        design: TWO_LATCHES,
+        stim: b"1\nb0\n00\n\n\n.\n",
+        line: b"confirmed b0 steps 2\n",
+        status: 0,
+    },
+    Case {
+        design: TWO_LATCHES,
+        stim: b"1\nb0\n00\n\n.\n",
+        line: b"not confirmed: not bad\n",
+        status: 1,
+    },
+    Case {
+        design: TWO_LATCHES,
+        stim: b"1\nb0\n10\n\n.\n",
+        line: b"not confirmed: start latch 0\n",
+        status: 1,
+    },
+    Case {
+        design: TWO_LATCHES,
+        stim: b"1\nb1\n00\n\n\n\n.\n",
+        line: b"not confirmed: b0 broke at step 1\n",
+        status: 1,
+    },
+    Case {
+        design: TWO_LATCHES,
+        stim: b"1\nb0\n0x\n\n\n.",
+        line: b"confirmed b0 steps 2\n",
+        status: 0,
+    },
+    Case {
+        design: RING,
+        stim: b"1\nb0\n000\n\n.\n",
+        line: b"not confirmed: start latch 0\n",
+        status: 1,
+    },
+    Case {
+        design: RING,
+        stim: b"1\nb0\n100\n\n\n\n.\n",
+        line: b"not confirmed: not bad\n",
+        status: 1,
+    },
+    Case {
+        design: ARBITER,
+        stim: b"1\nb1\n00\n01\n00\n.\n",
+        line: b"confirmed b1 steps 2\n",
+        status: 0,
+    },
+    Case {
+        design: ARBITER,
+        stim: b"1\nb1\nxx\nx1\nxx\n.\nmore",
+        line: b"confirmed b1 steps 2\n",
+        status: 0,
+    },
+    Case {
+        design: ARBITER,
+        stim: b"1\nb1\n00\n01\n.\n",
+        line: b"not confirmed: not bad\n",
+        status: 1,
+    },
+    Case {
+        design: NEVER,
+        stim: b"1\nb0\n\n1\n.\n",
+        line: b"not confirmed: constraint at step 0\n",
+        status: 1,
+    },
+    Case {
+        design: OUTPUTS,
+        stim: b"1\nb1\n0\n\n.\n",
+        line: b"confirmed b1 steps 1\n",
+        status: 0,
+    },
+    Case {
+        design: OUTPUTS,
+        stim: b"1\nb0\n0\n\n\n.\n",
+        line: b"not confirmed: b1 broke at step 0\n",
+        status: 1,
+    },
+    Case {
+        design: FREE,
+        stim: b"1\nb0\n1\n\n.\n",
+        line: b"confirmed b0 steps 1\n",
+        status: 0,
+    },
+    Case {
+        design: ARBITER,
+        stim: b"1\nb1\n00\n0\n.\n",
+        line: b"fault: stimulus 3 width line 4\n",
+        status: 3,
+    },
+    Case {
+        design: ARBITER,
+        stim: b"1\nb1\n00\n01\n",
+        line: b"fault: stimulus 4 short line 5\n",
+        status: 3,
+    },
+];
+
+const REFUSALS: [Case; 24] = [
+    Case {
+        design: b"",
+        stim: b"",
+        line: b"fault: design 1 header at 0\n",
+        status: 3,
+    },
+    Case {
+        design: b"aag 500001 0 0 0 0\n",
+        stim: b"",
+        line: b"fault: design 2 too large vars\n",
+        status: 3,
+    },
+    Case {
+        design: b"aag 0 0 0 0 0 0 0 1\n",
+        stim: b"",
+        line: b"fault: design 3 liveness\n",
+        status: 3,
+    },
+    Case {
+        design: b"aag 1 1 0 0 0\nx\n",
+        stim: b"",
+        line: b"fault: design 4 line at 14\n",
+        status: 3,
+    },
+    Case {
+        design: b"aag 1 1 0 0 0\n3\n",
+        stim: b"",
+        line: b"fault: design 5 range at 14\n",
+        status: 3,
+    },
+    Case {
+        design: b"aag 1 1 0 0 0\n",
+        stim: b"",
+        line: b"fault: design 10 short at 14\n",
+        status: 3,
+    },
+    Case {
+        design: b"aag 2 1 1 0 0\n2\n2 0\n",
+        stim: b"",
+        line: b"fault: design 6 twice at 16\n",
+        status: 3,
+    },
+    Case {
+        design: b"aag 2 0 0 0 0 1\n4\n",
+        stim: b"",
+        line: b"fault: design 7 undefined var 2\n",
+        status: 3,
+    },
+    Case {
+        design: b"aag 2 0 0 0 2 1\n2\n2 4 4\n4 2 2\n",
+        stim: b"",
+        line: b"fault: design 8 cycle var 1\n",
+        status: 3,
+    },
+    Case {
+        design: b"aag 1 1 0 0 0\n2\ni1 x\n",
+        stim: b"",
+        line: b"fault: design 9 symbol at 16\n",
+        status: 3,
+    },
+    Case {
+        design: b"aag 3 0 0 0 3\n2 4 4\n4 6 6\n6 4 4\n",
+        stim: b"",
+        line: b"fault: design 8 cycle var 1\n",
+        status: 3,
+    },
+    Case {
+        design: b"aag 1 2 0 0 0 0 0 0 1\n",
+        stim: b"",
+        line: b"fault: design 3 liveness\n",
+        status: 3,
+    },
+    Case {
+        design: b"aag 1 2 0 0 0 20001\n",
+        stim: b"",
+        line: b"fault: design 1 header at 0\n",
+        status: 3,
+    },
+    Case {
+        design: b"aag 0 0 0 500001 0\n",
+        stim: b"",
+        line: b"fault: design 2 too large props\n",
+        status: 3,
+    },
+    Case {
+        design: b"aag 0 0 0 500001 0 1\n",
+        stim: b"",
+        line: b"fault: design 2 too large lines\n",
+        status: 3,
+    },
+    Case {
+        design: b"aag 1 1 0 0 0\nx",
+        stim: b"",
+        line: b"fault: design 10 short at 15\n",
+        status: 3,
+    },
+    Case {
+        design: b"aag 0 18446744073709551615 18446744073709551615 0 0\n",
+        stim: b"",
+        line: b"fault: design 1 header at 0\n",
+        status: 3,
+    },
+    Case {
+        design: b"aag 1 0 0 1 0 1\n2\n0\n",
+        stim: b"",
+        line: b"fault: design 7 undefined var 1\n",
+        status: 3,
+    },
+    Case {
+        design: b"aag 1 0 1 0 0 1\n2 2 3\n2\n",
+        stim: b"",
+        line: b"fault: design 5 range at 16\n",
+        status: 3,
+    },
+    Case {
+        design: b"aag 1 1 0 0 0 1\n2\n2\nc0\n",
+        stim: b"",
+        line: b"fault: design 9 symbol at 20\n",
+        status: 3,
+    },
+    Case {
+        design: TWO_LATCHES,
+        stim: b"b0\n00\n\n.\n",
+        line: b"fault: stimulus 1 line line 1\n",
+        status: 3,
+    },
+    Case {
+        design: TWO_LATCHES,
+        stim: b"1\nb2\n00\n\n.\n",
+        line: b"fault: stimulus 2 unknown line 2\n",
+        status: 3,
+    },
+    Case {
+        design: TWO_LATCHES,
+        stim: b"1\nb0\n00\n.\n",
+        line: b"fault: stimulus 1 line line 4\n",
+        status: 3,
+    },
+    Case {
+        design: TWO_LATCHES,
+        stim: b"1\nb0\n00\n\n.zz",
+        line: b"fault: stimulus 4 short line 5\n",
+        status: 3,
+    },
+];
+
+fn shelf_of(
+    alloc: Global,
+    design: &[u8],
+    stim: &[u8],
+    piece: usize,
+    fails: Vec<u64>,
+) -> Result<MemShelf, AllocError>
+    requires { 0 < piece }
+{
+    let mut files = Vec::new(alloc);
+    files.push((
+        String::from_str(alloc, "d")?,
+        Vec::from_slice(alloc, design)?,
+    ))?;
+    files.push((String::from_str(alloc, "s")?, Vec::from_slice(alloc, stim)?))?;
+    Ok(MemShelf::new(files, piece, fails))
+}
+
+fn words_of(alloc: Global, words: &[&str]) -> Result<Vec<String>, AllocError> {
+    let mut all = Vec::new(alloc);
+    for word in words {
+        all.push(String::from_str(alloc, word)?)?;
+    }
+    Ok(all)
+}
+
+fn check_case(rt: &(impl std::process::Abort + AllocGlobal), case: &Case) -> Result<(), Fail> {
+    let alloc = rt.alloc();
+    let mut shelf = shelf_of(alloc, case.design, case.stim, 4, Vec::new(alloc))?;
+    let mut out = MemSink::new(alloc, 100)?;
+    let words = words_of(alloc, &["confirm", "d", "s"])?;
+    let ran = jasign_run(alloc, words.as_slice(), &mut shelf, &mut out);
+    assert_eq!(rt; out.bytes(), case.line);
+    assert_eq!(rt; ran.status, case.status);
+    Ok(())
+}
+
+#[test]
+fn replays(rt: HostRuntime) -> Result<(), Fail> {
+    for case in &REPLAYS {
+        check_case(&rt, case)?;
+    }
+    Ok(())
+}
+
+#[test]
+fn refusals(rt: HostRuntime) -> Result<(), Fail> {
+    for case in &REFUSALS {
+        check_case(&rt, case)?;
+    }
+    Ok(())
+}
+
+/// The calls on the shelf, from 0: the design is selected, read by 8, 8, 8, 4 and 0 bytes, the stimulus selected, read by
+/// 8, 4 and 0.
+#[test]
+fn each_call_on_the_shelf_fails(rt: HostRuntime) -> Result<(), Fail> {
+    let alloc = rt.alloc();
+    for call in 0..11u64 {
+        let fails = vec![in alloc; call]?;
+        let mut shelf = shelf_of(alloc, TWO_LATCHES, b"1\nb0\n00\n\n\n.\n", 8, fails)?;
+        let mut out = MemSink::new(alloc, 100)?;
+        let status = confirm_run(alloc, "d", "s", &mut shelf, &mut out);
+        if call < 10 {
+            assert_eq!(rt; out.bytes(), b"fault: outside\n".as_slice());
+            assert_eq!(rt; status, 5);
+        } else {
+            assert_eq!(rt; out.bytes(), b"confirmed b0 steps 2\n".as_slice());
+            assert_eq!(rt; status, 0);
+        }
+    }
+    Ok(())
+}
+
+#[test]
+fn a_name_that_is_not_held_and_a_sink_that_is_full(rt: HostRuntime) -> Result<(), Fail> {
+    let alloc = rt.alloc();
+    let mut shelf = shelf_of(
+        alloc,
+        TWO_LATCHES,
+        b"1\nb0\n00\n\n\n.\n",
+        8,
+        Vec::new(alloc),
+    )?;
+    let mut out = MemSink::new(alloc, 100)?;
+    assert_eq!(rt; confirm_run(alloc, "d", "t", &mut shelf, &mut out), 5);
+    assert_eq!(rt; out.bytes(), b"fault: outside\n".as_slice());
+    let mut narrow = MemSink::new(alloc, 10)?;
+    assert_eq!(rt; confirm_run(alloc, "d", "s", &mut shelf, &mut narrow), 5);
+    assert_eq!(rt; narrow.bytes(), b"confirmed ".as_slice());
+    Ok(())
+}
+
+#[test]
+fn words_that_are_no_command(rt: HostRuntime) -> Result<(), Fail> {
+    let alloc = rt.alloc();
+    let lists: [&[&str]; 6] = [
+        &[],
+        &["confirm"],
+        &["confirm", "d"],
+        &["confirm", "d", "-s"],
+        &["prove", "d", "s"],
+        &["confirm", "--help", "s"],
+    ];
+    for list in lists {
+        let mut shelf = shelf_of(alloc, b"", b"", 8, Vec::new(alloc))?;
+        let mut out = MemSink::new(alloc, 100)?;
+        let words = words_of(alloc, list)?;
+        let ran = jasign_run(alloc, words.as_slice(), &mut shelf, &mut out);
+        assert_eq!(rt; out.bytes(), b"fault: usage\n".as_slice());
+        assert_eq!(rt; ran.status, 4);
+    }
+    Ok(())
+}
