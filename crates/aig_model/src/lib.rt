@@ -5,6 +5,7 @@
 mod build;
 mod design;
 mod expect;
+pub mod laws;
 mod netlist;
 mod task;
 
