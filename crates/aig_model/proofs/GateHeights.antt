@@ -73,7 +73,7 @@ found_cases false g gs u rights var later is = HasEntry-later g gs u rights (lat
 tied : (u v : ℕ) → eq_by_cmp nat_cmp u v ≡ true → v ≡ u
 tied u v e = sym (eqb-true u v (unsigned_ties u v ∙ e))
 
-found : (gs : List AndGate) (u : ℕ) (rights : ℕ × ℕ) → find nat_cmp u (map entry_of gs) ≡ Some rights → HasEntry gs u rights
+pub found : (gs : List AndGate) (u : ℕ) (rights : ℕ × ℕ) → find nat_cmp u (map entry_of gs) ≡ Some rights → HasEntry gs u rights
 found [] u rights is = absurd (cc)
 found (g ∷ gs) u rights is = found_cases (eq_by_cmp nat_cmp u (gate_var g)) g gs u rights (tied u (gate_var g)) (found gs u rights) is
 
