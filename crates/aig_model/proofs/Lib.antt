@@ -10,3 +10,4 @@ pub mod Marking
 pub mod Uses
 pub mod Twice
 pub mod Assembly
+pub mod RefusalLemmas
