@@ -1,1 +1,4 @@
 pub mod RowLemmas
+pub mod DueLemmas
+pub mod RowLineLemmas
+pub mod StimulusLemmas

@@ -2,12 +2,14 @@
 //! `specs/Verdict`.
 #![tactic(auto)]
 
+mod laws;
 mod lines;
 mod read;
 mod refusal;
 mod replay;
 mod verdict;
 
+pub use laws::stimulus_text_is_exact;
 pub use read::read_stim;
 pub use refusal::StimRefusal;
 pub use replay::confirm;
