@@ -7,3 +7,5 @@ pub mod Invariants
 pub mod Sets
 pub mod Laws
 pub mod Answers
+pub mod Clauses
+pub mod Meter

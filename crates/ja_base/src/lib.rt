@@ -1,13 +1,17 @@
 //! Plain values that every other crate speaks of: literals, lists, rows of bits, want of memory. The product's meaning
-//! stands in `specs/`: `Literals`, `Circuit`, `Valuation`, `Runs`, `Replay`, `Invariants`, `Sets`, `Laws`.
+//! stands in `specs/`: `Literals`, `Circuit`, `Valuation`, `Runs`, `Replay`, `Invariants`, `Sets`, `Laws`, `Clauses`.
 #![tactic(auto)]
 
+mod clause;
 mod items;
 mod literal;
 mod memory;
+mod meter;
 mod row;
 
+pub use clause::{Clause, ClauseList};
 pub use items::{Items, Lits, Props};
 pub use literal::{Lit, Var};
 pub use memory::{Memory, OrMemory};
+pub use meter::{Meter, Spent, SpentNote};
 pub use row::{Row, Rows};

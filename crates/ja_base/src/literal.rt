@@ -20,7 +20,7 @@ impl Model for Var {
 }
 
 /// A literal: `2v` for the variable v, `2v + 1` for its negation. 0 is false and 1 is true.
-#[derive(Clone, Copy, Debug, PartialEq, Eq, PartialOrd, Ord)]
+#[derive(Clone, Copy, Debug, Default, PartialEq, Eq, PartialOrd, Ord)]
 pub struct Lit(pub u32);
 
 impl Model for Lit {

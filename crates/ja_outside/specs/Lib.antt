@@ -1,5 +1,6 @@
 pub mod Faults
 pub mod Files
+pub mod Flags
 pub mod InMemory
 pub mod Shelf
 pub mod Sink

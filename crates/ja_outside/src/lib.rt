@@ -1,9 +1,12 @@
-//! How the program meets the outside world: a shelf of files that are read, a sink that is written. Both are traits, with
-//! one implementation in memory each; `specs/Shelf.antt` and `specs/Sink.antt` say what their calls do.
+//! How the program meets the outside world: a shelf of files that are read, a sink that is written, a
+//! flag that stops a run. Each is a trait, with an implementation in memory; `specs/Shelf.antt`, `specs/Sink.antt` and
+//! `specs/Flags.antt` say what their calls do.
 #![tactic(auto)]
 
 mod failed;
 mod files;
+mod flag;
+mod mem_flag;
 mod mem_shelf;
 mod mem_sink;
 mod plan;
@@ -14,6 +17,8 @@ mod tests;
 mod whole;
 
 pub use failed::Failed;
+pub use flag::{Flag, NoFlag};
+pub use mem_flag::MemFlag;
 pub use mem_shelf::MemShelf;
 pub use mem_sink::MemSink;
 pub use shelf::Shelf;

@@ -1,0 +1,6 @@
+-- Counts of a meter.
+use Rattle.std.specs.Prelude.{ℕ, ◌+◌, min}
+
+-- the next number, or the greatest of a u64
+abbrev pub next_count : ℕ → ℕ
+next_count n = min (n + 1) 18446744073709551615
