@@ -1,8 +1,11 @@
-//! Laws of verdicts.
+//! Laws of verdicts and of stimulus texts.
 
-ghost use Rattle.std.specs.Prelude.{◌≡◌, ◌↔◌, ℕ};
+ghost use Rattle.std.specs.Prelude.{◌≡◌, ◌↔◌, ℕ, List, Ok};
 ghost use Rattle.ja_base.specs.Circuit.{Problem, IsAcyclic};
 ghost use Rattle.ja_base.specs.Runs.{Trace, IsLocalFailure};
+ghost use Rattle.aig_model.specs.Netlist.{Netlist};
+ghost use Rattle.local_stim.specs.StimulusReading.{stimulus_of};
+ghost use Rattle.local_stim.specs.StimulusText.{IsStimulusText};
 ghost use Rattle.local_stim.specs.Verdict.{IsVerdict};
 ghost use Rattle.local_stim.specs.declared.verdict.Confirm.{Confirm};
 
@@ -15,4 +18,11 @@ pub fn local_is_local_failure()
 pub fn verdicts_exclude()
     ensures { (t : Problem) (p : ℕ) (m : Trace) (a b : Confirm) → IsAcyclic t.circuit
         → IsVerdict t p m a → IsVerdict t p m b → a ≡ b }
+{}
+
+/// What is read is spelled so, what is spelled so is read so, and one text spells at most one stimulus of a design.
+pub fn stimulus_text_is_exact()
+    ensures spelled { (d : Netlist) (bytes : List ℕ) (p : ℕ) (m : Trace) → stimulus_of d bytes ≡ Ok (p, m) → IsStimulusText d bytes p m }
+    ensures read { (d : Netlist) (bytes : List ℕ) (p : ℕ) (m : Trace) → IsStimulusText d bytes p m → stimulus_of d bytes ≡ Ok (p, m) }
+    ensures one { (d : Netlist) (bytes : List ℕ) (p q : ℕ) (m n : Trace) → IsStimulusText d bytes p m → IsStimulusText d bytes q n → (p ≡ q) × (m ≡ n) }
 {}

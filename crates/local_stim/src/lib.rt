@@ -11,7 +11,7 @@ mod refusal;
 mod replay;
 mod verdict;
 
-pub use laws::{local_is_local_failure, verdicts_exclude};
+pub use laws::{local_is_local_failure, stimulus_text_is_exact, verdicts_exclude};
 pub use read::read_stim;
 pub use refusal::StimRefusal;
 pub use replay::confirm;

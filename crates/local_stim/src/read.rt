@@ -57,7 +57,10 @@ pub fn read_stim(
     bytes: &[u8],
     design: &Design,
 ) -> Result<(u32, Stimulus), OrMemory<StimRefusal>>
+    ensures found { IfOk result (λ x. IsStimulusText design.now bytes.now x.0 x.1) }
+    ensures only { (p : ℕ) (m : Trace) → IsStimulusText design.now bytes.now p m → IfOk result (λ x. (x.0 ≡ p) × (x.1 ≡ m)) }
     ensures refused { IfRefused result (IsFirstFault design.now bytes.now) }
+    ensures none { IfRefused result (λ _. (p : ℕ) (m : Trace) → IsStimulusText design.now bytes.now p m → ⊥) }
 {
     let found = read_exactly(alloc, bytes, design)?;
     Ok(found)
