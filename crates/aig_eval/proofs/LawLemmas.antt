@@ -14,7 +14,8 @@ use Rattle.aig_eval.proofs.PutLemmas.{Puts-none, Puts-more, PutsGates-none, Puts
 use Rattle.aig_eval.proofs.DefinedLemmas.{item_at, found_in, some_value}
 use Rattle.aig_eval.proofs.ValuationLemmas.{new_is_within, valuation}
 
-module _ (c : Circuit) (acyclic : IsAcyclic c) (state input v w : List Bool) (a : IsValuation c state input v) (b : IsValuation c state input w) where
+module _ (c : Circuit) (acyclic : IsAcyclic c) (state input v w : List Bool)
+    (a : IsValuation c state input v) (b : IsValuation c state input w) where
   same_input : (k u : ℕ) → slice_get c.inputs k ≡ Some u → bit v u ≡ bit w u
   same_input k u e =
       sym (map_at (bit v) c.inputs k u false e) ∙ ap (λ r. get_or r k false) (a.inputs ∙ sym b.inputs) ∙ map_at (bit w) c.inputs k u false e

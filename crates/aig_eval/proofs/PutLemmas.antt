@@ -31,7 +31,8 @@ value-set_other row v l b apart = ap (with_sign l) (get_or-set_other row v (vari
 pub PutsGates-none : (gates : List AndGate) (old : List Bool) → PutsGates gates 0 old old
 PutsGates-none gates old = record { width = refl; put = λ k g h. absurd (omega arith); others = λ u h. refl }
 
-module _ (n : Netlist) (sound : IsSound n) (own : HasOwnVars n) (at : ℕ) (gate : AndGate) (is : slice_get n.gates at ≡ Some gate) (old new : List Bool) (b : Bool) where
+module _ (n : Netlist) (sound : IsSound n) (own : HasOwnVars n) (at : ℕ) (gate : AndGate)
+    (is : slice_get n.gates at ≡ Some gate) (old new : List Bool) (b : Bool) where
   -- a gate that is not later keeps its equation
   keeps_gate : (k : ℕ) (g : AndGate) → k ≤ at → slice_get n.gates k ≡ Some g
       → (value (set new (gate_var gate) b) g.rhs0 && value (set new (gate_var gate) b) g.rhs1) ≡ (value new g.rhs0 && value new g.rhs1)

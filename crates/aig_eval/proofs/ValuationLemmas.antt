@@ -38,7 +38,11 @@ latches_mapped n f row width each =
     let item = item_at n.latches k within in
     map_at f (circuit n).latches k (latch_of item.0) false (slice_get_mapped latch_of n.latches k item.0 item.1) ∙ each k item.0 item.1)
 
-module _ (n : Netlist) (sound : IsSound n) (own : HasOwnVars n) (state input v0 v1 v2 v3 : List Bool) (state_width : length state ≡ length n.latches) (input_width : length input ≡ length n.inputs) (ins : Puts (input_vars n) input (length n.inputs) v0 v1) (las : Puts (latch_vars n) state (length n.latches) v1 v2) (gas : PutsGates n.gates (length n.gates) v2 v3) where
+-- v0 is the row before the three passes; v1, v2 and v3 are what they leave
+module _ (n : Netlist) (sound : IsSound n) (own : HasOwnVars n) (state input v0 v1 v2 v3 : List Bool)
+    (state_width : length state ≡ length n.latches) (input_width : length input ≡ length n.inputs)
+    (ins : Puts (input_vars n) input (length n.inputs) v0 v1) (las : Puts (latch_vars n) state (length n.latches) v1 v2)
+    (gas : PutsGates n.gates (length n.gates) v2 v3) where
   kept : (u : ℕ) → IsFree n u → bit v3 u ≡ bit v0 u
   kept u free = gas.others u free.no_gate ∙ las.others u free.no_latch ∙ ins.others u free.no_input
 

@@ -10,9 +10,9 @@ use Rattle.ja_base.specs.Valuation.{MeetsConstraints, AssumptionsHold, IsBad}
 use Rattle.ja_base.specs.Runs.{Trace, IsInitial, IsRun, IsLegal, IsLocalFailure}
 use Rattle.ja_base.specs.Replay.{IsLeast, step_at, BreaksConstraint, BreaksAt, LeavesConstraints, BreaksEarlier}
 use Rattle.aig_model.specs.Netlist.{Netlist, IsSound, circuit}
-use Rattle.aig_eval.specs.Run.{RunsTo}
+use Rattle.aig_eval.specs.Run.{Standing, RunsTo}
 use Rattle.local_stim.specs.declared.earlier.Broken.{Broken}
-use Rattle.local_stim.specs.Steps.{BreaksAssumption, IsFirstBreak, Replays, earlier_rows}
+use Rattle.local_stim.specs.Steps.{BreaksAssumption, IsFirstBreak, Replays, GoesOn, earlier_rows}
 use Rattle.local_stim.proofs.RunLemmas.{length-run, IsRun-append, run_exists}
 
 -- the problem of a design and an assumed set
@@ -131,26 +131,29 @@ next_replays t m k state next v before after r within runs met found here =
     }
 
 -- The last step meets the constraints too: the stimulus is legal.
-pub legal_to_last : (t : plain.Problem) (m : Trace) (state next v : List Bool) (broken : Option Broken) → IsInitial t.circuit m.first
-    → 0 < length m.inputs → (r : Replays t m.first (earlier_rows m) state broken)
-    → RunsTo t.circuit m.first (take (length m.inputs - 1 + 1) m.inputs) (r.steps ++ v ∷ []) next → MeetsConstraints t.circuit v
-    → IsLegal t.circuit m (r.steps ++ v ∷ [])
-legal_to_last t m state next v broken initial some r runs met = record {
-  replay = record {
-    starts = initial;
-    runs = subst (λ rows. IsRun t.circuit m.first rows (r.steps ++ v ∷ [])) (take_all (length m.inputs - 1 + 1) m.inputs (omega arith)) runs.run;
-    has_step = omega (arith, length-append r.steps (v ∷ []));
-  };
-  constrained = All-push (MeetsConstraints t.circuit) r.steps v r.constrained met;
-}
+pub legal_to_last : (t : plain.Problem) (m : Trace) (len : ℕ) (old after : Standing) (broken : Option Broken) → IsInitial t.circuit m.first
+    → len ≡ length m.inputs → 0 < len → (r : Replays t m.first (earlier_rows m) old.state broken) → GoesOn t.circuit m (len - 1) old after
+    → MeetsConstraints t.circuit after.values → IsLegal t.circuit m (r.steps ++ after.values ∷ [])
+legal_to_last t m len old after broken initial is some r goes met =
+    let steps = r.steps ++ after.values ∷ [] in
+    let taken = goes r.steps (subst (λ n. RunsTo t.circuit m.first (take (n - 1) m.inputs) r.steps old.state) (sym is) r.runs) in
+    record {
+      replay = record {
+        starts = initial;
+        runs = subst (λ rows. IsRun t.circuit m.first rows steps) (take_all (len - 1 + 1) m.inputs (omega arith)) taken.run;
+        has_step = omega (arith, length-append r.steps (after.values ∷ []));
+      };
+      constrained = All-push (MeetsConstraints t.circuit) r.steps after.values r.constrained met;
+    }
 
--- the verdict that the first break of an assumption leaves, where the last step breaks the property
-pub broken_verdict : (t : plain.Problem) (p : ℕ) (m : Trace) (state v : List Bool) (b : Broken) (r : Replays t m.first (earlier_rows m) state (Some b))
-    → IsLegal t.circuit m (r.steps ++ v ∷ []) → IsBad t.circuit p v → BreaksEarlier t p m b.step b.prop
-broken_verdict t p m state v b r legal bad =
-    record { earlier = r.steps; last = v; legal = legal; bad = bad; least_step = r.first_break.0; least_property = r.first_break.1 }
+-- the verdicts on a legal stimulus whose last step breaks the property
+module _ (t : plain.Problem) (p : ℕ) (m : Trace) (state v : List Bool) (broken : Option Broken)
+    (r : Replays t m.first (earlier_rows m) state broken) (legal : IsLegal t.circuit m (r.steps ++ v ∷ [])) (bad : IsBad t.circuit p v) where
+  pub broken_verdict : (b : Broken) → broken ≡ Some b → BreaksEarlier t p m b.step b.prop
+  broken_verdict b is =
+      let first = subst (IsFirstBreak t r.steps) is r.first_break in
+      record { earlier = r.steps; last = v; legal = legal; bad = bad; least_step = first.0; least_property = first.1 }
 
-pub local_verdict : (t : plain.Problem) (p : ℕ) (m : Trace) (state v : List Bool) (r : Replays t m.first (earlier_rows m) state None)
-    → IsLegal t.circuit m (r.steps ++ v ∷ []) → IsBad t.circuit p v → IsLocalFailure t p m
-local_verdict t p m state v r legal bad =
-    record { earlier = r.steps; last = v; reached = record { legal = legal; held = r.first_break }; bad = bad }
+  pub local_verdict : broken ≡ None → IsLocalFailure t p m
+  local_verdict is =
+      record { earlier = r.steps; last = v; reached = record { legal = legal; held = subst (IsFirstBreak t r.steps) is r.first_break }; bad = bad }

@@ -1,11 +1,11 @@
 -- What is known of the steps that a replay has taken.
-use Rattle.std.specs.Prelude.{◌≡◌, ℕ, ◌-◌, Bool, true, Option, Some, None, List, length, take, All}
+use Rattle.std.specs.Prelude.{◌≡◌, ℕ, ◌+◌, ◌-◌, Bool, true, Option, Some, None, List, [], ◌∷◌, ◌++◌, length, take, All}
 use Rattle.ja_base.specs.Literals.{bit}
-use Rattle.ja_base.specs.Circuit.{Problem}
+use Rattle.ja_base.specs.Circuit.{Circuit, Problem}
 use Rattle.ja_base.specs.Valuation.{IsBad, MeetsConstraints, AssumptionsHold}
 use Rattle.ja_base.specs.Runs.{Trace}
 use Rattle.ja_base.specs.Replay.{IsLeast, BreaksAt, LeavesConstraints}
-use Rattle.aig_eval.specs.Run.{RunsTo}
+use Rattle.aig_eval.specs.Run.{Standing, RunsTo}
 use Rattle.local_stim.specs.declared.earlier.Broken.{Broken}
 use Rattle.local_stim.specs.declared.earlier.Earlier.{Earlier}
 use Rattle.local_stim.specs.declared.earlier.Earlier.TheVariants.{Leaves, Stays}
@@ -25,6 +25,11 @@ pub record Replays (t : Problem) (first : List Bool) (rows : List (List Bool)) (
   pub runs : RunsTo t.circuit first rows steps state
   pub constrained : All (MeetsConstraints t.circuit) steps
   pub first_break : IsFirstBreak t steps broken
+
+-- a step goes on in the run of a stimulus by the row at its place
+abbrev pub GoesOn : Circuit → Trace → ℕ → Standing → Standing → Type 0
+GoesOn c m step old new = (steps : List (List Bool)) → RunsTo c m.first (take step m.inputs) steps old.state
+    → RunsTo c m.first (take (step + 1) m.inputs) (steps ++ new.values ∷ []) new.state
 
 -- all rows of a stimulus but the last
 abbrev pub earlier_rows : Trace → List (List Bool)

@@ -1,20 +1,20 @@
 //! The steps of a stimulus before its last.
 
-ghost use Rattle.std.specs.Prelude.{◌≡◌, ◌≢◌, ◌+◌, ◌<◌, ◌↔◌, [], ◌∷◌, ◌++◌, Bool, List, length, take, None, All, IsTrue, MatchOption};
+ghost use Rattle.std.specs.Prelude.{◌≡◌, ◌≢◌, ◌+◌, ◌<◌, ◌↔◌, length, None, All, IsTrue, MatchOption};
 ghost use Rattle.ja_base.specs.Valuation.{MeetsConstraints, AssumptionsHold};
 ghost use Rattle.ja_base.specs.Runs.{IsInitial};
 ghost use Rattle.ja_base.specs.Replay.{IsLeast};
 ghost use Rattle.aig_model.specs.Netlist.{circuit, IsSound};
 ghost use Rattle.aig_model.specs.Task.{problem};
-ghost use Rattle.aig_eval.specs.Run.{Fits, RunsTo};
-ghost use Rattle.local_stim.specs.Steps.{BreaksAssumption, IsEarlier};
+ghost use Rattle.aig_eval.specs.Run.{Fits};
+ghost use Rattle.local_stim.specs.Steps.{BreaksAssumption, IsEarlier, GoesOn};
 
 use crate::checks::{first_assumed_broken, meets_constraints};
 use aig_eval::Runner;
 use aig_model::{Stimulus, Task};
 use ja_base::Row;
 
-/// A step that breaks an assumed property.
+/// A step that breaks an assumed property, and the least one that it breaks.
 #[derive(Clone, Copy)]
 pub(crate) struct Broken {
     pub step: u32,
@@ -30,7 +30,7 @@ pub(crate) enum Earlier {
     Stays { broken: Option<Broken> },
 }
 
-/// Takes all steps but the last, or ends where a constraint is 0.
+/// Takes all steps but the last, or ends where a constraint is 0: no later row changes that verdict.
 pub(crate) fn take_earlier(task: &Task, stim: &Stimulus, runner: &mut Runner) -> Earlier
     requires sound { IsSound task.now.design }
     requires initial { IsInitial (circuit task.now.design) stim.now.first }
@@ -55,8 +55,7 @@ pub(crate) fn take_step(task: &Task, stim: &Stimulus, step: u32, runner: &mut Ru
     requires step { step < length stim.now.inputs }
     requires rows { All (λ row. length row ≡ length task.now.design.inputs) stim.now.inputs }
     requires fits { Fits (circuit task.now.design) runner.old }
-    ensures run { (steps : List (List Bool)) → RunsTo (circuit task.now.design) stim.now.first (take step stim.now.inputs) steps runner.old.state
-        → RunsTo (circuit task.now.design) stim.now.first (take (step + 1) stim.now.inputs) (steps ++ runner.new.values ∷ []) runner.new.state }
+    ensures run { GoesOn (circuit task.now.design) stim.now step runner.old runner.new }
     ensures fits { Fits (circuit task.now.design) runner.new }
     ensures meets { IsTrue result ↔ MeetsConstraints (circuit task.now.design) runner.new.values }
 {

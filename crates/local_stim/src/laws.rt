@@ -16,7 +16,8 @@ pub fn local_is_local_failure()
 
 /// A stimulus has at most one verdict.
 pub fn verdicts_exclude()
-    ensures { (t : Problem) (p : ℕ) (m : Trace) (a b : Confirm) → IsAcyclic t.circuit → IsVerdict t p m a → IsVerdict t p m b → a ≡ b }
+    ensures { (t : Problem) (p : ℕ) (m : Trace) (a b : Confirm) → IsAcyclic t.circuit
+        → IsVerdict t p m a → IsVerdict t p m b → a ≡ b }
 {}
 
 /// What is read is spelled so, what is spelled so is read so, and one text spells at most one stimulus of a design.
