@@ -97,7 +97,8 @@ fn sum_fits(form: Form, header: &Header) -> bool
 
 #[tactic(auto, unfolding(crate::specs::Reading::taken_sizes))]
 fn taken(form: Form, header: Header) -> Result<Header, ReadRefusal>
-    ensures { Reads (λ h. h) result (taken_sizes form header) }
+    ensures read { Reads (λ h. h) result (taken_sizes form header) }
+    ensures limits { IfOk result (IsWithinLimits form) }
 {
     if header.vars > MOST_VARS {
         return Err(ReadRefusal::TooLarge { what: Large::Vars });
@@ -117,16 +118,18 @@ fn taken(form: Form, header: Header) -> Result<Header, ReadRefusal>
     Ok(header)
 }
 
-/// The header of a file in the form, and what follows its line.
+/// The header of a file in the form. What is left begins behind its line.
 #[tactic(auto, unfolding(crate::specs::Reading::header_at))]
-pub fn read_header(form: Form, bytes: &[u8]) -> Result<(Header, &[u8]), ReadRefusal>
-    ensures { Reads (λ x. (x.0, x.1.now)) result (header_at form bytes.now) }
+pub fn read_header(form: Form, rest: &mut &[u8]) -> Result<Header, ReadRefusal>
+    ensures read { Reads (λ h. (h, rest.new.now)) result (header_at form rest.old.now) }
+    ensures limits { IfOk result (IsWithinLimits form) }
 {
-    if bytes.len() > MOST_BYTES {
+    if rest.len() > MOST_BYTES {
         return Err(ReadRefusal::TooLarge { what: Large::File });
     }
-    let Some((header, rest)) = header_line(form, bytes) else {
+    let Some((header, after)) = header_line(form, *rest) else {
         return Err(ReadRefusal::Header { at: 0 });
     };
-    Ok((taken(form, header)?, rest))
+    *rest = after;
+    taken(form, header)
 }

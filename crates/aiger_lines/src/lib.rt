@@ -12,7 +12,7 @@ mod tail;
 
 pub use form::Form;
 pub use header::read_header;
-pub use lines::{literal, literals, numbers, place, reset, used_literal};
+pub use lines::{literal, literals, numbers, one_number, place, reset, used_literal};
 pub use refusal::{Large, ReadRefusal};
 pub use sizes::Header;
 pub use tail::bad_line;

@@ -32,16 +32,20 @@ fn fault(size: usize, bytes: &[u8]) -> ReadRefusal
 
 /// The numbers of the next line, in a file of so many bytes.
 #[tactic(auto, unfolding(crate::specs::Reading::numbers_at))]
-pub fn numbers(size: usize, bytes: &[u8]) -> Result<(Numbers, &[u8]), ReadRefusal>
-    ensures { Reads (λ x. (x.0, x.1.now)) result (numbers_at size bytes.now) }
+pub fn numbers(size: usize, rest: &mut &[u8]) -> Result<Numbers, ReadRefusal>
+    ensures { Reads (λ ns. (ns, rest.new.now)) result (numbers_at size rest.old.now) }
 {
-    match row(bytes) {
-        Some(read) => Ok(read),
-        None => Err(fault(size, bytes)),
+    match row(*rest) {
+        Some((numbers, after)) => {
+            *rest = after;
+            Ok(numbers)
+        }
+        None => Err(fault(size, *rest)),
     }
 }
 
-fn one(at: usize, numbers: &Numbers) -> Result<u64, ReadRefusal>
+/// The number of a line that has no other.
+pub fn one_number(at: usize, numbers: &Numbers) -> Result<u64, ReadRefusal>
     ensures { Reads (λ n. n) result (one_number at numbers.now) }
 {
     match numbers.as_slice() {
@@ -75,18 +79,14 @@ pub fn reset(latch: Lit, at: usize, number: u64) -> Result<Reset, ReadRefusal>
 
 /// The literal of the next line.
 #[tactic(auto, unfolding(crate::specs::Reading::literal_at))]
-pub fn literal(vars: u32, size: usize, bytes: &[u8]) -> Result<(Lit, &[u8]), ReadRefusal>
+pub fn literal(vars: u32, size: usize, rest: &mut &[u8]) -> Result<Lit, ReadRefusal>
     requires { vars < 2 ^ 31 }
-    ensures { Reads (λ x. (x.0, x.1.now)) result (literal_at vars size bytes.now) }
+    ensures { Reads (λ l. (l, rest.new.now)) result (literal_at vars size rest.old.now) }
 {
-    let at = place(size, bytes);
-    match numbers(size, bytes) {
-        Ok((numbers, rest)) => {
-            let number = one(at, &numbers)?;
-            Ok((used_literal(vars, at, number)?, rest))
-        }
-        Err(refusal) => Err(refusal),
-    }
+    let at = place(size, *rest);
+    let numbers = numbers(size, rest)?;
+    let number = one_number(at, &numbers)?;
+    used_literal(vars, at, number)
 }
 
 /// The literals of so many lines.
@@ -95,21 +95,14 @@ pub fn literals(
     vars: u32,
     count: u64,
     size: usize,
-    bytes: &[u8],
-) -> Result<(Lits, &[u8]), OrMemory<ReadRefusal>>
+    rest: &mut &[u8],
+) -> Result<Lits, OrMemory<ReadRefusal>>
     requires { vars < 2 ^ 31 }
-    ensures { Gives (λ x. (x.0, x.1.now)) result (repeated (literal_at vars size) count bytes.now) }
+    ensures { Gives (λ ls. (ls, rest.new.now)) result (repeated (literal_at vars size) count rest.old.now) }
 {
     let mut lits = Lits::new(alloc);
-    let mut rest = bytes;
     for _ in 0..count {
-        match literal(vars, size, rest) {
-            Ok(read) => {
-                lits.push(read.0)?;
-                rest = read.1;
-            }
-            Err(refusal) => return Err(OrMemory::Refused(refusal)),
-        }
+        lits.push(literal(vars, size, rest)?)?;
     }
-    Ok((lits, rest))
+    Ok(lits)
 }
