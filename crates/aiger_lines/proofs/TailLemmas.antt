@@ -30,11 +30,11 @@ tests_below : (m n : ℕ) → m < n → ltb m n ≡ true
 tests_below m n h = grind (arith, nat_tests)
 
 -- behind the number stands a space
-space_is : (bytes rest : List ℕ) → space_at bytes ≡ Some rest → bytes ≡ 32 ∷ rest
+pub space_is : (bytes rest : List ℕ) → space_at bytes ≡ Some rest → bytes ≡ 32 ∷ rest
 unfolding space_at
 space_is bytes rest h = byte_takes 32 bytes rest h
 
-space_again : (rest : List ℕ) → space_at (32 ∷ rest) ≡ Some rest
+pub space_again : (rest : List ℕ) → space_at (32 ∷ rest) ≡ Some rest
 unfolding space_at
 space_again rest = byte_again 32 rest
 
