@@ -1,0 +1,3 @@
+pub mod DefineLemmas
+pub mod ItemLemmas
+pub mod FileLemmas
