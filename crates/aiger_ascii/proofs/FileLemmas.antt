@@ -138,3 +138,136 @@ pub sections_take : (size : ℕ) (h : Header) (bytes : List ℕ) (p : Parts) (ta
 sections_take size h bytes p tail e =
     let r = sections_read size h bytes p tail e in
     subst (λ (q : Parts × List ℕ). TakesSections h bytes q.0 q.1) (ok_is (lists_of h r.i.0 r.l.0 r.o.0 r.b.0 r.c.0 r.g.0, r.g.1.rest) (p, tail) r.whole) (sections_spelled size h bytes p tail r)
+
+-- ---- literals are in range, and no variable is defined twice
+
+new_variable : (vars l : ℕ) → IsNew vars l → variable l < vars + 1
+new_variable vars l h = omega (arith, h.within)
+
+within_row : (h : Header) (bytes : List ℕ) (p : Parts) (tail : List ℕ) → TakesSections h bytes p tail → AllByRecursion (λ v. v < h.vars + 1) (definitions (netlist_of p))
+within_row h bytes p tail t =
+    let W = λ (v : ℕ). v < h.vars + 1 in
+    let I = map variable p.inputs in
+    let L = map (λ (k : Latch). variable k.lit) p.latches in
+    all_join W (I ++ L) (map gate_var p.gates)
+    (all_join W I L (all_mapped variable (IsNew h.vars) W (λ l new. new_variable h.vars l new) p.inputs t.inputs.range)
+      (all_mapped (λ (k : Latch). variable k.lit) (IsLatchInRange h.vars) W (λ k range. new_variable h.vars k.lit range.lit) p.latches t.latches.range))
+    (all_mapped gate_var (IsGateInRange h.vars) W (λ g range. new_variable h.vars g.lhs range.lhs) p.gates t.gates.range)
+
+pub sections_once : (h : Header) (bytes : List ℕ) (p : Parts) (tail : List ℕ) → TakesSections h bytes p tail → AreOnce p
+sections_once h bytes p tail t v twice =
+    fresh_apart (h.vars + 1) (replicate (h.vars + 1) false) (definitions (netlist_of p)) (length-replicate (h.vars + 1) false) t.fresh (within_row h bytes p tail t)
+    twice.one twice.other twice.apart twice.within (twice.one_is ∙ sym twice.other_is)
+
+bads_used : (vars : ℕ) (b : Bool) (outputs bads : List ℕ) → AllByRecursion (IsUsed vars) outputs → AllByRecursion (IsUsed vars) bads → AllByRecursion (IsUsed vars) (cond b outputs bads)
+bads_used vars true outputs bads g h = g
+bads_used vars false outputs bads g h = h
+
+uses_used : (h : Header) (bytes : List ℕ) (p : Parts) (tail : List ℕ) → TakesSections h bytes p tail → AllByRecursion (IsUsed h.vars) (uses p)
+uses_used h bytes p tail t =
+    let U = IsUsed h.vars in
+    let N = map (λ (k : Latch). k.next) p.latches in
+    let R0 = map (λ (g : AndGate). g.rhs0) p.gates in
+    let R1 = map (λ (g : AndGate). g.rhs1) p.gates in
+    let bads : AllByRecursion U p.bads = subst (λ (k : List ℕ). AllByRecursion U k) (sym t.properties) (bads_used h.vars (eqb h.bads 0) p.outputs t.bad_lits t.outputs.range t.bads.range) in
+    all_join U (N ++ p.outputs ++ p.bads ++ p.constraints ++ R0) R1
+    (all_join U (N ++ p.outputs ++ p.bads ++ p.constraints) R0
+      (all_join U (N ++ p.outputs ++ p.bads) p.constraints
+        (all_join U (N ++ p.outputs) p.bads
+          (all_join U N p.outputs (all_mapped (λ (k : Latch). k.next) (IsLatchInRange h.vars) U (λ k range. range.next) p.latches t.latches.range) t.outputs.range)
+          bads)
+        t.constraints.range)
+      (all_mapped (λ (g : AndGate). g.rhs0) (IsGateInRange h.vars) U (λ g range. range.rhs0) p.gates t.gates.range))
+    (all_mapped (λ (g : AndGate). g.rhs1) (IsGateInRange h.vars) U (λ g range. range.rhs1) p.gates t.gates.range)
+
+-- the same of the lists' own number of variables
+record InRange (vars : ℕ) (p : Parts) : Type 0 where
+  small : vars < 2 ^ 31
+  inputs : AllByRecursion (IsNew vars) p.inputs
+  latches : AllByRecursion (λ (k : Latch). IsNew vars k.lit) p.latches
+  gates : AllByRecursion (λ (g : AndGate). IsNew vars g.lhs) p.gates
+  used : AllByRecursion (IsUsed vars) (uses p)
+
+in_range : (p : Parts) → InRange p.vars p → AreInRange p
+in_range p r = record {
+  small = r.small;
+  inputs = λ k l e. all_at (IsNew p.vars) p.inputs r.inputs k l e;
+  latches = λ k latch e. all_at (λ (x : Latch). IsNew p.vars x.lit) p.latches r.latches k latch e;
+  gates = λ k gate e. all_at (λ (x : AndGate). IsNew p.vars x.lhs) p.gates r.gates k gate e;
+  used = λ k l e. all_at (IsUsed p.vars) (uses p) r.used k l e;
+}
+
+pub sections_range : (h : Header) (bytes : List ℕ) (p : Parts) (tail : List ℕ) → TakesSections h bytes p tail → h.vars ≤ 500000 → AreInRange p
+sections_range h bytes p tail t few =
+    let ranges : InRange h.vars p = record {
+      small = omega arith;
+      inputs = t.inputs.range;
+      latches = all_weaker (IsLatchInRange h.vars) (λ (k : Latch). IsNew h.vars k.lit) (λ k range. range.lit) p.latches t.latches.range;
+      gates = all_weaker (IsGateInRange h.vars) (λ (g : AndGate). IsNew h.vars g.lhs) (λ g range. range.lhs) p.gates t.gates.range;
+      used = uses_used h bytes p tail t;
+    } in
+    in_range p (subst (λ (k : ℕ). InRange k p) (sym t.counts.vars) ranges)
+
+-- ---- a whole file
+
+-- a file up to its gates was read
+pub record TakesFile (bytes : List ℕ) (f : File) : Type 0 where
+  pub rest : List ℕ
+  pub header : TakesHeader Ascii bytes f.head rest
+  pub limits : IsWithinLimits Ascii f.head
+  pub small : length bytes ≤ 67108864
+  pub sections : TakesSections f.head rest f.parts f.tail
+
+pub file_takes : (bytes : List ℕ) (f : File) → file_at bytes ≡ Ok f → TakesFile bytes f
+unfolding file_at
+file_takes bytes f e =
+    let Second = λ (head : Header × List ℕ). λ (lists : Parts × List ℕ). Ok (record { head = head.0; parts = lists.0; tail = lists.1 }) in
+    let First = λ (head : Header × List ℕ). sections_at (length bytes) head.0 head.1 >>= Second head in
+    bind_then (header_at Ascii bytes) First f e (λ head header e1.
+    bind_then (sections_at (length bytes) head.0 head.1) (Second head) f e1 (λ lists sections e2.
+    let file : File = record { head = head.0; parts = lists.0; tail = lists.1 } in
+    let h = header_takes Ascii bytes head.0 head.1 header in
+    let taken : TakesFile bytes file = record { rest = head.1; header = h.0; limits = h.1; small = h.2; sections = sections_take (length bytes) head.0 head.1 lists.0 lists.1 sections } in
+    subst (λ (k : File). TakesFile bytes k) (ok_is file f e2) taken))
+
+pub file_range : (bytes : List ℕ) (f : File) → file_at bytes ≡ Ok f → AreInRange f.parts
+file_range bytes f e = let t = file_takes bytes f e in sections_range f.head t.rest f.parts f.tail t.sections t.limits.vars
+
+pub file_once : (bytes : List ℕ) (f : File) → file_at bytes ≡ Ok f → AreOnce f.parts
+file_once bytes f e = let t = file_takes bytes f e in sections_once f.head t.rest f.parts f.tail t.sections
+
+-- the texts of the parts, behind each other
+chain_parts : (a x b c d e f g t p q r : List ℕ) → a ≡ x ++ b → b ≡ c ++ d → d ≡ e ++ f → f ≡ g ++ t → t ≡ p ++ q → a ≡ x ++ c ++ e ++ g ++ p ++ q
+chain_parts a x b c d e f g t p q r e1 e2 e3 e4 e5 =
+    e1 ∙ ap (λ k. x ++ k) e2 ∙ sym (append_assoc x c d)
+    ∙ ap (λ k. (x ++ c) ++ k) e3 ∙ sym (append_assoc (x ++ c) e f)
+    ∙ ap (λ k. (x ++ c ++ e) ++ k) e4 ∙ sym (append_assoc (x ++ c ++ e) g t)
+    ∙ ap (λ k. (x ++ c ++ e ++ g) ++ k) e5 ∙ sym (append_assoc (x ++ c ++ e ++ g) p q)
+
+file_text : (bytes : List ℕ) (f : File) (t : TakesFile bytes f) → bytes ≡ t.header.text ++ t.sections.inputs.text ++ t.sections.latches.text ++ t.sections.outputs.text ++ t.sections.bads.text ++ t.sections.constraints.text ++ t.sections.gates.text ++ f.tail
+file_text bytes f t =
+    let s = t.sections in
+    let four = t.header.text ++ s.inputs.text ++ s.latches.text ++ s.outputs.text in
+    let front : bytes ≡ four ++ s.bads.text ++ s.rest4 = chain_parts bytes t.header.text t.rest s.inputs.text s.rest1 s.latches.text s.rest2 s.outputs.text s.rest3 s.bads.text s.rest4 s.rest4 t.header.parts s.inputs.parts s.latches.parts s.outputs.parts s.bads.parts in
+    let five = four ++ s.bads.text in
+    front ∙ ap (λ (k : List ℕ). five ++ k) s.constraints.parts ∙ sym (append_assoc five s.constraints.text s.rest5)
+    ∙ ap (λ (k : List ℕ). (five ++ s.constraints.text) ++ k) s.gates.parts ∙ sym (append_assoc (five ++ s.constraints.text) s.gates.text f.tail)
+
+-- what is read, makes a design and ends in a tail is a design
+pub file_spells : (bytes : List ℕ) (f : File) → file_at bytes ≡ Ok f → MakesDesign f.parts → IsTail f.head f.tail → Spells bytes f.parts
+file_spells bytes f e design tail =
+    let t = file_takes bytes f e in
+    let s = t.sections in
+    record {
+      head = f.head;
+      bads = s.bad_lits;
+      sections = record { header = t.header.text; inputs = s.inputs.text; latches = s.latches.text; outputs = s.outputs.text; bads = s.bads.text; constraints = s.constraints.text; gates = s.gates.text; tail = f.tail };
+      bytes_are = file_text bytes f t;
+      spelled = record { header = t.header.line; inputs = s.inputs.lines; latches = s.latches.lines; outputs = s.outputs.lines; bad_lines = s.bads.lines; constraints = s.constraints.lines; gates = s.gates.lines; tail = tail };
+      counts = s.counts;
+      properties = s.properties;
+      file = t.small;
+      limits = t.limits;
+      range = file_range bytes f e;
+      design = design;
+    }

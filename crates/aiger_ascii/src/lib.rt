@@ -6,7 +6,9 @@ mod define;
 mod gates;
 mod inputs;
 mod latches;
+mod laws;
 mod read;
 mod sections;
 
+pub use laws::{design_has_no_fault, text_has_one_design};
 pub use read::read_ascii;

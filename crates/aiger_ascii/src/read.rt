@@ -19,7 +19,7 @@ use std::alloc::Global;
 /// The sizes and the lists of a file. What is left follows the gates.
 #[tactic(auto, unfolding(crate::specs::Reading::file_at))]
 fn file(alloc: Global, rest: &mut &[u8]) -> Result<(Header, Parts), OrMemory<ReadRefusal>>
-    ensures read { Gives (λ x. record { head = x.0; parts = x.1; tail = rest.new.now }) result (file_at rest.old.now) }
+    ensures { Gives (λ x. record { head = x.0; parts = x.1; tail = rest.new.now }) result (file_at rest.old.now) }
 {
     let size = rest.len();
     let header = read_header(Form::Ascii, rest)?;
@@ -53,7 +53,9 @@ fn design(alloc: Global, parts: Parts) -> Result<Design, OrMemory<ReadRefusal>>
     }
 }
 
-pub fn read_ascii(alloc: Global, bytes: &[u8]) -> Result<Design, OrMemory<ReadRefusal>>
+/// The design of a file, or its first fault.
+fn whole(alloc: Global, bytes: &[u8]) -> Result<Design, OrMemory<ReadRefusal>>
+    ensures found { IfOk result (λ d. IsAsciiDesign bytes.now (circuit d)) }
     ensures refused { IfRefused result (IsFirstFault bytes.now) }
 {
     let mut rest = bytes;
@@ -65,4 +67,17 @@ pub fn read_ascii(alloc: Global, bytes: &[u8]) -> Result<Design, OrMemory<ReadRe
             at: place(bytes.len(), line),
         })),
     }
+}
+
+/// The design that the bytes spell.
+pub fn read_ascii(alloc: Global, bytes: &[u8]) -> Result<Design, OrMemory<ReadRefusal>>
+    // What is read is spelled so.
+    ensures found { IfOk result (λ d. IsAsciiDesign bytes.now (circuit d)) }
+    // What is spelled so is read, unless memory runs out.
+    ensures only { (c : Circuit) → IsAsciiDesign bytes.now c → IfOk result (λ d. circuit d ≡ c) }
+    ensures spelled_is_not_refused { (c : Circuit) → IsAsciiDesign bytes.now c → IfRefused result (λ _. ⊥) }
+    // Which refusal it is.
+    ensures refused { IfRefused result (IsFirstFault bytes.now) }
+{
+    whole(alloc, bytes)
 }
