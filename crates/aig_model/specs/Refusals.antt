@@ -15,6 +15,10 @@ use Rattle.aig_model.specs.Netlist.{Netlist, IsNew, gate_var, definitions}
 abbrev pub netlist_of : Parts → Netlist
 netlist_of p = record { vars = p.vars; inputs = p.inputs; latches = p.latches; gates = p.gates; bads = p.bads; constraints = p.constraints }
 
+-- the lists with their gates in another order
+abbrev pub with_gates : Netlist → List AndGate → Netlist
+with_gates n gates = record n { gates = gates }
+
 -- every literal that is used
 abbrev pub uses : Parts → List ℕ
 uses p = map (λ (k : Latch). k.next) p.latches ++ p.outputs ++ p.bads ++ p.constraints

@@ -2,11 +2,13 @@
 
 ghost use Rattle.std.specs.Prelude.{◌≡◌, IfOk, OnOk};
 ghost use Rattle.ja_base.specs.Answers.{IfRefused};
-ghost use Rattle.aig_model.specs.Netlist.{circuit};
-ghost use Rattle.aig_model.specs.Refusals.{netlist_of, AreInRange, MakesDesign, IsRefusal};
+ghost use Rattle.aig_model.specs.Netlist.{circuit, IsSound};
+ghost use Rattle.aig_model.specs.Refusals.{netlist_of, with_gates, AreInRange, MakesDesign, IsRefusal};
 
+use crate::definitions::Defined;
 use crate::design::Design;
-use crate::netlist::Parts;
+use crate::netlist::{AndGates, Parts};
+use crate::order::ordered_gates;
 use ja_base::{OrMemory, Var};
 use std::alloc::Global;
 
@@ -30,8 +32,32 @@ impl Design {
         ensures sound { OnOk result (MakesDesign parts) }
         ensures refused { IfRefused result (IsRefusal parts) }
     {
-        let _ = alloc;
-        let _ = parts;
-        Err(OrMemory::Memory)
+        let defined = Defined::by(alloc, &parts)?;
+        if let Some(var) = defined.twice() {
+            return Err(OrMemory::Refused(BuildRefusal::Twice(var)));
+        }
+        if let Some(var) = defined.first_undefined(&parts) {
+            return Err(OrMemory::Refused(BuildRefusal::Undefined(var)));
+        }
+        match ordered_gates(alloc, parts.vars, parts.gates.as_slice()) {
+            Ok(gates) => Ok(Design::from_parts(parts, gates)),
+            Err(OrMemory::Refused(var)) => Err(OrMemory::Refused(BuildRefusal::Cycle(var))),
+            Err(OrMemory::Memory) => Err(OrMemory::Memory),
+        }
+    }
+
+    /// The lists but the outputs, with these gates.
+    fn from_parts(parts: Parts, gates: AndGates) -> Design
+        requires { IsSound (with_gates (netlist_of parts) gates) }
+        ensures { result ≡ with_gates (netlist_of parts) gates }
+    {
+        Design {
+            vars: parts.vars,
+            inputs: parts.inputs,
+            latches: parts.latches,
+            gates,
+            bads: parts.bads,
+            constraints: parts.constraints,
+        }
     }
 }

@@ -3,9 +3,12 @@
 #![tactic(auto)]
 
 mod build;
+mod definitions;
 mod design;
 mod expect;
+pub mod laws;
 mod netlist;
+mod order;
 mod task;
 
 pub use build::BuildRefusal;
@@ -13,3 +16,6 @@ pub use design::Design;
 pub use expect::Expect;
 pub use netlist::{AndGate, AndGates, Latch, Latches, Parts, Reset};
 pub use task::{Stimulus, Task};
+
+#[cfg(test)]
+mod tests;

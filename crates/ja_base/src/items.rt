@@ -1,6 +1,6 @@
 //! The one list type: contracts see it as a list.
 
-ghost use Rattle.std.specs.Prelude.{◌≡◌, ◌^◌, ◌<◌, [], ◌∷◌, ◌++◌, List, length, Some, slice_get, OnOk, OnErr};
+ghost use Rattle.std.specs.Prelude.{◌≡◌, ◌^◌, ◌<◌, [], ◌∷◌, ◌++◌, List, length, Some, slice_get, vec_len, OnOk, OnErr};
 
 use crate::Lit;
 use crate::memory::Memory;
@@ -36,6 +36,14 @@ impl<T> Items<T> {
         Items {
             items: Vec::new(alloc),
         }
+    }
+
+    /// The items of a vector, without a copy.
+    pub fn from_vec(items: Vec<T>) -> Items<T>
+        requires { vec_len items < 2 ^ 32 }
+        ensures { result ≡ items.items }
+    {
+        Items { items }
     }
 
     pub fn len(&self) -> u32

@@ -1,0 +1,13 @@
+pub mod GateHeights
+pub mod Places
+pub mod WalkTable
+pub mod Cycles
+pub mod WalkEnd
+pub mod WalkStart
+pub mod WalkSteps
+pub mod LeastLemmas
+pub mod Marking
+pub mod Uses
+pub mod Twice
+pub mod Assembly
+pub mod RefusalLemmas
