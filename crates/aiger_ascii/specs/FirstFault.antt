@@ -1,5 +1,36 @@
-use Rattle.std.specs.Prelude.{ℕ, List}
+-- The first rule that a file breaks, with its place.
+use Rattle.std.specs.Prelude.{◌≡◌, ℕ, ◌⊎◌, List, ⊤, length, MatchResult}
+use Rattle.aig_model.specs.Refusals.{MakesDesign, IsRefusal}
+use Rattle.aig_model.specs.declared.netlist.Parts.{Parts}
+use Rattle.aig_model.specs.declared.build.BuildRefusal.{BuildRefusal}
+use Rattle.aig_model.specs.declared.build.BuildRefusal.TheVariants as build
 use Rattle.aiger_lines.specs.declared.refusal.ReadRefusal.{ReadRefusal}
+use Rattle.aiger_lines.specs.declared.refusal.ReadRefusal.TheVariants.{Undefined, Cycle, Symbol}
+use Rattle.aiger_lines.specs.Tail.{HasBadLine}
+use Rattle.aiger_lines.specs.Reading.{place}
+use Rattle.aiger_ascii.specs.Reading.{File, file_at}
 
+-- what may come behind lines that were read against each other
+abbrev pub IsLate : BuildRefusal → Type 0
+IsLate (build.Twice v) = ⊥
+IsLate (build.Undefined v) = ⊤
+IsLate (build.Cycle v) = ⊤
+
+-- what lists are refused for, as a refusal of the file
+abbrev pub Becomes : BuildRefusal → ReadRefusal → Type 0
+Becomes (build.Twice v) r = ⊥
+Becomes (build.Undefined v) r = r ≡ Undefined v
+Becomes (build.Cycle v) r = r ≡ Cycle v
+
+-- a variable is used and not defined, or a gate depends on itself
+abbrev pub IsBuildFault : Parts → ReadRefusal → Type 0
+IsBuildFault p r = (b : BuildRefusal) × IsRefusal p b × Becomes b r
+
+-- the lists make a design, and behind them stands a line that is not in form
+abbrev pub IsTailFault : ℕ → File → ReadRefusal → Type 0
+IsTailFault size f r = MakesDesign f.parts × (rest : List ℕ) × HasBadLine f.head f.tail rest × (r ≡ Symbol (place size rest))
+
+-- The first fault that is met up to the gates; where there is none, what is wrong with the lists; and where nothing is, with
+-- a line behind them.
 abbrev pub IsFirstFault : List ℕ → ReadRefusal → Type 0
-IsFirstFault bytes r = ⊥
+IsFirstFault bytes r = MatchResult (file_at bytes) (λ f. IsBuildFault f.parts r ⊎ IsTailFault (length bytes) f r) (λ fault. r ≡ fault)

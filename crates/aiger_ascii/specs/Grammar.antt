@@ -7,13 +7,11 @@ use Rattle.aig_model.specs.declared.netlist.AndGate.{AndGate}
 use Rattle.aig_model.specs.declared.netlist.Parts.{Parts}
 use Rattle.aig_model.specs.Netlist.{circuit}
 use Rattle.aig_model.specs.Refusals.{netlist_of, AreInRange, MakesDesign}
-use Rattle.aiger_lines.specs.Header.{Header, IsHeaderLine, IsWithinLimits, definition_count}
+use Rattle.aiger_lines.specs.declared.form.Form.TheVariants.{Ascii}
+use Rattle.aiger_lines.specs.declared.sizes.Header.{Header}
+use Rattle.aiger_lines.specs.Header.{IsHeaderLine, IsWithinLimits}
 use Rattle.aiger_lines.specs.Lines.{AreLines, IsLiteralLine, HasReset}
 use Rattle.aiger_lines.specs.Tail.{IsTail}
-
--- `aag`
-abbrev pub word : List ℕ
-word = 97 ∷ 97 ∷ 103 ∷ []
 
 -- a latch's literal, the literal of its next state, and its reset
 abbrev pub IsLatchLine : List ℕ → Latch → Type 0
@@ -49,7 +47,7 @@ pub record Counts (h : Header) (p : Parts) (bads : List ℕ) : Type 0 where
 
 -- each section has a line for each of its items
 pub record AreSpelled (h : Header) (p : Parts) (bads : List ℕ) (s : Sections) : Type 0 where
-  pub header : IsHeaderLine word s.header h
+  pub header : IsHeaderLine Ascii s.header h
   pub inputs : AreLines IsLiteralLine s.inputs p.inputs
   pub latches : AreLines IsLatchLine s.latches p.latches
   pub outputs : AreLines IsLiteralLine s.outputs p.outputs
@@ -70,8 +68,7 @@ pub record Spells (bytes : List ℕ) (p : Parts) : Type 0 where
   pub counts : Counts head p bads
   pub properties : p.bads ≡ (if head.bads == 0 then p.outputs else bads)
   pub file : length bytes ≤ 67108864
-  pub limits : IsWithinLimits head
-  pub sum : definition_count head ≤ head.vars
+  pub limits : IsWithinLimits Ascii head
   pub range : AreInRange p
   pub design : MakesDesign p
 

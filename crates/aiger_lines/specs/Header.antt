@@ -1,20 +1,16 @@
 -- The header of an AIGER 1.9 file, and the sizes that this product takes.
-use Rattle.std.specs.Prelude.{◌≡◌, ℕ, ◌+◌, ◌≤◌, ◌==◌, if◌then◌else◌, List, ◌∷◌, ◌++◌, length, slice_index}
+use Rattle.std.specs.Prelude.{◌≡◌, ℕ, ◌+◌, ◌≤◌, ◌==◌, if◌then◌else◌, List, [], ◌∷◌, ◌++◌, length, slice_index}
 use Rattle.ja_text.specs.Rows.{IsRow}
+use Rattle.aiger_lines.specs.declared.form.Form.{Form}
+use Rattle.aiger_lines.specs.declared.form.Form.TheVariants.{Ascii, Binary}
+use Rattle.aiger_lines.specs.declared.sizes.Header.{Header}
 
--- the nine numbers of a header: M I L O A B C J F
-pub record Header : Type 0 where
-  pub vars : ℕ
-  pub inputs : ℕ
-  pub latches : ℕ
-  pub outputs : ℕ
-  pub gates : ℕ
-  pub bads : ℕ
-  pub constraints : ℕ
-  pub justice : ℕ
-  pub fairness : ℕ
+-- `aag` or `aig`
+abbrev pub word_of : Form → List ℕ
+word_of Ascii = 97 ∷ 97 ∷ 103 ∷ []
+word_of Binary = 97 ∷ 105 ∷ 103 ∷ []
 
--- numbers that are left out are 0
+-- the sizes M I L O A B C J F; numbers that are left out are 0
 abbrev pub header_of : List ℕ → Header
 header_of ns = record {
   vars = slice_index ns 0;
@@ -29,10 +25,10 @@ header_of ns = record {
 }
 
 -- the word of the form, then five to nine numbers, each after one space, then LF
-pub record IsHeaderLine (word text : List ℕ) (h : Header) : Type 0 where
+pub record IsHeaderLine (form : Form) (text : List ℕ) (h : Header) : Type 0 where
   pub row : List ℕ
   pub numbers : List ℕ
-  pub text_is : text ≡ word ++ 32 ∷ row
+  pub text_is : text ≡ word_of form ++ 32 ∷ row
   pub spelled : IsRow row numbers
   pub five : 5 ≤ length numbers
   pub nine : length numbers ≤ 9
@@ -46,11 +42,17 @@ property_count h = if h.bads == 0 then h.outputs else h.bads
 abbrev pub definition_count : Header → ℕ
 definition_count h = h.inputs + h.latches + h.gates
 
+-- in the binary form each variable is defined, and in the ASCII form some may not be
+abbrev pub FitsSum : Form → Header → Type 0
+FitsSum Ascii h = definition_count h ≤ h.vars
+FitsSum Binary h = definition_count h ≡ h.vars
+
 -- the sizes that are taken
-pub record IsWithinLimits (h : Header) : Type 0 where
+pub record IsWithinLimits (form : Form) (h : Header) : Type 0 where
   pub vars : h.vars ≤ 500000
   pub justice : h.justice ≡ 0
   pub fairness : h.fairness ≡ 0
+  pub sum : FitsSum form h
   pub properties : property_count h ≤ 20000
   pub outputs : h.outputs ≤ 500000
   pub constraints : h.constraints ≤ 500000

@@ -1,7 +1,18 @@
-//! What the two forms of AIGER 1.9 share: the header, the lines of latches and literals, symbols and comments, and the
-//! refusals. What a text of each is stands in `specs/Header`, `specs/Lines` and `specs/Tail`.
+//! What the two forms of AIGER 1.9 share: the header, the lines of numbers, symbols and comments, and the refusals. What a
+//! text of each is stands in `specs/Header`, `specs/Lines` and `specs/Tail`; in which order faults are met in
+//! `specs/Reading`.
 #![tactic(auto)]
 
+mod form;
+mod header;
+mod lines;
 mod refusal;
+mod sizes;
+mod tail;
 
+pub use form::Form;
+pub use header::read_header;
+pub use lines::{literal, literals, numbers, one_number, place, reset, used_literal};
 pub use refusal::{Large, ReadRefusal};
+pub use sizes::Header;
+pub use tail::bad_line;

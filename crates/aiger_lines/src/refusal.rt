@@ -1,6 +1,9 @@
 //! Why bytes are no design.
 
-use ja_base::Var;
+ghost use Rattle.std.specs.Prelude.{◌≡◌};
+ghost use Rattle.ja_base.specs.declared.memory.OrMemory.TheVariants.{Refused};
+
+use ja_base::{OrMemory, Var};
 use thiserror::Error;
 
 /// What there is more of than the limits allow.
@@ -41,4 +44,12 @@ pub enum ReadRefusal {
     Short { at: usize },
     #[error("a delta that breaks the order of a gate's literals")]
     Order { at: usize },
+}
+
+impl From<ReadRefusal> for OrMemory<ReadRefusal> {
+    ghost from_gives = { λ r e. e ≡ Refused r };
+
+    fn from(refusal: ReadRefusal) -> OrMemory<ReadRefusal> {
+        OrMemory::Refused(refusal)
+    }
 }

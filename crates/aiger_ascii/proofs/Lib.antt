@@ -1,0 +1,5 @@
+pub mod DefineLemmas
+pub mod ItemLemmas
+pub mod FileLemmas
+pub mod SpellLemmas
+pub mod FaultLemmas

@@ -1,0 +1,10 @@
+use Rattle.std.proofs.Common.{◌≡◌, length}
+use Rattle.ja_text.specs.Repeated.{IsUnderway}
+use Rattle.aiger_ascii.specs.Reading.{input_at}
+use Rattle.aiger_ascii.proofs.inputs.inputs.Given as goal
+
+abbrev pub invariant-loop : goal.invariant-loop
+invariant-loop l = record {
+  underway : IsUnderway (input_at l.vars l.size) l.count (record { seen = l.initial.seen; rest = l.initial.rest.now }) l.counter l.lits (record { seen = l.seen; rest = l.rest.now });
+  sized : length l.seen ≡ length l.initial.seen;
+}

@@ -1,0 +1,15 @@
+//! Bytes spell at most one design, and then they have no fault.
+
+ghost use Rattle.std.specs.Prelude.{◌≡◌, ℕ, List};
+ghost use Rattle.ja_base.specs.Circuit.{Circuit};
+ghost use Rattle.aiger_lines.specs.declared.refusal.ReadRefusal.{ReadRefusal};
+ghost use Rattle.aiger_ascii.specs.Grammar.{IsAsciiDesign};
+ghost use Rattle.aiger_ascii.specs.FirstFault.{IsFirstFault};
+
+pub fn text_has_one_design()
+    ensures { (bytes : List ℕ) (c d : Circuit) → IsAsciiDesign bytes c → IsAsciiDesign bytes d → c ≡ d }
+{}
+
+pub fn design_has_no_fault()
+    ensures { (bytes : List ℕ) (c : Circuit) (fault : ReadRefusal) → IsAsciiDesign bytes c → IsFirstFault bytes fault → ⊥ }
+{}

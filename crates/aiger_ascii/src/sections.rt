@@ -1,0 +1,64 @@
+//! The sections of a file, one after another.
+
+ghost use Rattle.std.specs.Prelude.{◌≡◌, ◌^◌, ◌<◌, ◌==◌, if◌then◌else◌, IfOk, take};
+ghost use Rattle.ja_text.specs.Reading.{Gives};
+ghost use Rattle.aiger_ascii.specs.Reading.{sections_at};
+
+use crate::gates::gates;
+use crate::inputs::inputs;
+use crate::latches::latches;
+use aig_model::Parts;
+use aiger_lines::{Header, ReadRefusal, literals};
+use ja_base::{Lits, Memory, OrMemory, Row};
+use std::alloc::Global;
+
+fn copied(alloc: Global, lits: &Lits) -> Result<Lits, Memory>
+    ensures { IfOk result (λ copy. copy ≡ lits.now) }
+{
+    let mut copy = Lits::new(alloc);
+    for lit in lits.as_slice() {
+        copy.push(*lit)?;
+    }
+    Ok(copy)
+}
+
+/// The outputs are the properties where no bads are counted.
+fn properties(alloc: Global, count: u64, bads: Lits, outputs: &Lits) -> Result<Lits, Memory>
+    ensures { IfOk result (λ ps. ps ≡ (if count == 0 then outputs.now else bads)) }
+{
+    if count == 0 {
+        copied(alloc, outputs)
+    } else {
+        Ok(bads)
+    }
+}
+
+#[tactic(auto, unfolding(crate::specs::Reading::sections_at))]
+pub fn sections(
+    alloc: Global,
+    size: usize,
+    header: &Header,
+    rest: &mut &[u8],
+) -> Result<Parts, OrMemory<ReadRefusal>>
+    requires { header.now.vars < 2 ^ 31 }
+    ensures { Gives (λ p. (p, rest.new.now)) result (sections_at size header.now rest.old.now) }
+{
+    let vars = header.vars as u32;
+    let mut seen = Row::zeros(alloc, vars + 1)?;
+    let inputs = inputs(alloc, vars, header.inputs, size, &mut seen, rest)?;
+    let latches = latches(alloc, vars, header.latches, size, &mut seen, rest)?;
+    let outputs = literals(alloc, vars, header.outputs, size, rest)?;
+    let bads = literals(alloc, vars, header.bads, size, rest)?;
+    let constraints = literals(alloc, vars, header.constraints, size, rest)?;
+    let gates = gates(alloc, vars, header.gates, size, &mut seen, rest)?;
+    let bads = properties(alloc, header.bads, bads, &outputs)?;
+    Ok(Parts {
+        vars,
+        inputs,
+        latches,
+        bads,
+        constraints,
+        outputs,
+        gates,
+    })
+}

@@ -1,0 +1,4 @@
+pub mod ListLemmas
+pub mod TailLemmas
+pub mod HeaderLemmas
+pub mod SectionLemmas
