@@ -7,7 +7,7 @@ use Rattle.std.proofs.lemmas.Option.{option_and_then_some, same_Some}
 use Rattle.ja_text.specs.Lines.{byte_at, space_at}
 use Rattle.ja_text.specs.Rows.{IsRow, TakesRow, row_at}
 use Rattle.ja_text.specs.Reading.{◌>>=◌}
-use Rattle.ja_text.proofs.LineLemmas.{byte_takes, byte_again}
+use Rattle.ja_text.proofs.ByteLemmas.{byte_takes, byte_again}
 use Rattle.ja_text.proofs.RowLemmas.{row_takes, row_again}
 use Rattle.ja_text.proofs.ReadingLemmas.{bind_ok, guard_ok, ok_is, ok_or_ok}
 use Rattle.aiger_lines.specs.declared.form.Form.{Form}

@@ -9,7 +9,8 @@ use Rattle.std.proofs.lemmas.List.{flat_map_more}
 use Rattle.ja_text.specs.Numbers.{IsDigit, IsNumber, BeginsWithoutDigit, TakesNumber, number_at}
 use Rattle.ja_text.specs.Lines.{IsOneLine, TakesLine, space_at, line_at}
 use Rattle.ja_text.proofs.NumberLemmas.{digit_true, number_takes, number_again}
-use Rattle.ja_text.proofs.LineLemmas.{byte_takes, byte_again, line_takes, line_again, line_missing, line_one}
+use Rattle.ja_text.proofs.ByteLemmas.{byte_takes, byte_again}
+use Rattle.ja_text.proofs.LineLemmas.{line_takes, line_again, line_missing, line_one}
 use Rattle.aiger_lines.specs.declared.sizes.Header.{Header}
 use Rattle.aiger_lines.specs.Tail.{symbol_count, IsSymbol, IsPassedOver, IsComments, PassesOver, IsTail, first_line, HasBadLine}
 use Rattle.aiger_lines.specs.Reading.{is_symbol}
