@@ -1,5 +1,5 @@
 -- Faults behind the gates, and that a file that is spelled has none.
-use Rattle.std.proofs.Common.{◌≡◌, ℕ, List, length, Result, Ok, Err, refl, sym, ap, subst, ◌∙◌, inl, inr}
+use Rattle.std.proofs.Common.{◌≡◌, ℕ, List, length, Result, Ok, Err, refl, sym, ap, subst, ◌∙◌, ◌⊎◌, inl, inr}
 use Rattle.std.specs.Prelude.{MatchResult, IfOk}
 use Rattle.ja_base.specs.Circuit.{Circuit}
 use Rattle.ja_base.specs.Answers.{IfRefused}
@@ -11,14 +11,15 @@ use Rattle.aig_model.specs.declared.build.BuildRefusal.{BuildRefusal}
 use Rattle.aig_model.specs.declared.build.BuildRefusal.TheVariants.{Twice, Undefined, Cycle}
 use Rattle.aig_model.specs.Netlist.{circuit}
 use Rattle.aig_model.specs.Refusals.{netlist_of, IsRefusal, AreOnce, MakesDesign}
+use Rattle.aig_model.proofs.RefusalLemmas.{refusals_agree_lem, designs_are_not_refused_lem}
 use Rattle.aiger_lines.specs.declared.refusal.ReadRefusal.{ReadRefusal}
 use Rattle.aiger_lines.specs.declared.refusal.ReadRefusal.TheVariants.{Symbol}
 use Rattle.aiger_lines.specs.Tail.{HasBadLine}
 use Rattle.aiger_lines.specs.Reading.{place}
-use Rattle.aiger_lines.proofs.TailLemmas.{tail_has_none}
+use Rattle.aiger_lines.proofs.TailLemmas.{tail_has_none, bad_line_one}
 use Rattle.aiger_ascii.specs.Grammar.{Spells, IsAsciiDesign}
 use Rattle.aiger_ascii.specs.Reading.{File, file_at}
-use Rattle.aiger_ascii.specs.FirstFault.{IsLate, IsBuildFault, IsTailFault, IsFirstFault}
+use Rattle.aiger_ascii.specs.FirstFault.{IsLate, Becomes, IsBuildFault, IsTailFault, IsFirstFault}
 use Rattle.aiger_ascii.proofs.SpellLemmas.{file_of, file_again}
 
 -- where no variable is defined twice, that is not what lists are refused for
@@ -32,16 +33,11 @@ tail_fault bytes f at line e design bad at-is = rw e (inr (design, line, bad, ap
 
 -- ---- a file that is spelled
 
-no_refusal : (p : Parts) (b : BuildRefusal) → MakesDesign p → IsRefusal p b → ⊥
-no_refusal p (Twice v) d r = d.once v r.0
-no_refusal p (Undefined v) d r = d.defined v r.1.0
-no_refusal p (Cycle v) d r = d.acyclic v r.2.0
-
 pub no_fault : (bytes : List ℕ) (p : Parts) (r : ReadRefusal) → Spells bytes p → IsFirstFault bytes r → ⊥
 no_fault bytes p r s fault =
     let late = rw (file_again bytes p s) at fault in
     elim late [
-      | inl b ↦ no_refusal p b.0 s.design b.1
+      | inl b ↦ designs_are_not_refused_lem p b.0 s.design b.1
       | inr t ↦ tail_has_none s.head s.sections.tail t.1 s.spelled.tail t.2
     ]
 
@@ -50,6 +46,28 @@ pub one_circuit : (bytes : List ℕ) (c d : Circuit) → IsAsciiDesign bytes c �
 one_circuit bytes c d g h =
     let same = ok_is (file_of g.0 g.1) (file_of h.0 h.1) (sym (file_again bytes g.0 g.1) ∙ file_again bytes h.0 h.1) in
     g.2 ∙ ap (λ (f : File). circuit (netlist_of f.parts)) same ∙ sym h.2
+
+-- ---- there is one first fault
+
+becomes_one : (b : BuildRefusal) (x y : ReadRefusal) → Becomes b x → Becomes b y → x ≡ y
+becomes_one (Twice v) x y g h = absurd g
+becomes_one (Undefined v) x y g h = g ∙ sym h
+becomes_one (Cycle v) x y g h = g ∙ sym h
+
+abbrev IsFaultOf : ℕ → Result File ReadRefusal → ReadRefusal → Type 0
+IsFaultOf size read r = MatchResult read (λ f. IsBuildFault f.parts r ⊎ IsTailFault size f r) (λ fault. r ≡ fault)
+
+same_fault : (size : ℕ) (read : Result File ReadRefusal) (x y : ReadRefusal) → IsFaultOf size read x → IsFaultOf size read y → x ≡ y
+same_fault size (Err e) x y g h = g ∙ sym h
+same_fault size (Ok f) x y (inl g) (inl h) =
+    becomes_one h.0 x y (subst (λ (k : BuildRefusal). Becomes k x) (refusals_agree_lem f.parts g.0 h.0 g.1 h.1) g.2) h.2
+same_fault size (Ok f) x y (inl g) (inr h) = absurd (designs_are_not_refused_lem f.parts g.0 h.0 g.1)
+same_fault size (Ok f) x y (inr g) (inl h) = absurd (designs_are_not_refused_lem f.parts h.0 g.0 h.1)
+same_fault size (Ok f) x y (inr g) (inr h) =
+    g.3 ∙ ap (λ (k : List ℕ). Symbol (place size k)) (bad_line_one f.head f.tail g.1 h.1 g.2 h.2) ∙ sym h.3
+
+pub one_fault : (bytes : List ℕ) (x y : ReadRefusal) → IsFirstFault bytes x → IsFirstFault bytes y → x ≡ y
+one_fault bytes x y g h = same_fault (length bytes) (file_at bytes) x y g h
 
 -- ---- what a reader answers
 

@@ -17,12 +17,12 @@ use Rattle.aiger_lines.specs.declared.form.Form.TheVariants.{Ascii}
 use Rattle.aiger_lines.specs.declared.sizes.Header.{Header}
 use Rattle.aiger_lines.specs.declared.refusal.ReadRefusal.{ReadRefusal}
 use Rattle.aiger_lines.specs.Header.{IsWithinLimits}
-use Rattle.aiger_lines.specs.Lines.{IsLiteralLine}
+use Rattle.aiger_lines.specs.Lines.{IsLiteralLine, IsUsed, TakesItems}
 use Rattle.aiger_lines.specs.Tail.{IsTail}
 use Rattle.aiger_lines.specs.Reading.{literal_at, header_at}
 use Rattle.aiger_lines.proofs.ListLemmas.{all_join, all_front, all_back, all_at, all_from_at, all_weaker, all_with, all_mapped, all_unmapped}
-use Rattle.aiger_lines.proofs.HeaderLemmas.{TakesHeader, header_takes, header_again}
-use Rattle.aiger_lines.proofs.SectionLemmas.{TakesItems, IsUsed, literals_take, literals_again}
+use Rattle.aiger_lines.proofs.HeaderLemmas.{TakesHeader, header_takes}
+use Rattle.aiger_lines.proofs.SectionLemmas.{literals_take}
 use Rattle.aiger_ascii.specs.Grammar.{IsLatchLine, IsGateLine, Sections, text_of, Counts, AreSpelled, Spells}
 use Rattle.aiger_ascii.specs.Reading.{State, input_from, input_at, latch_from, latch_at, gate_from, gate_at, state_before, sections_at, File, file_at}
 use Rattle.aiger_ascii.proofs.DefineLemmas.{marked, AreFresh, fresh_join, fresh_front, fresh_back, marked-append, fresh_apart, apart_fresh}
@@ -263,7 +263,7 @@ file_spells bytes f e design tail =
       bads = s.bad_lits;
       sections = record { header = t.header.text; inputs = s.inputs.text; latches = s.latches.text; outputs = s.outputs.text; bads = s.bads.text; constraints = s.constraints.text; gates = s.gates.text; tail = f.tail };
       bytes_are = file_text bytes f t;
-      spelled = record { header = t.header.line; inputs = s.inputs.lines; latches = s.latches.lines; outputs = s.outputs.lines; bad_lines = s.bads.lines; constraints = s.constraints.lines; gates = s.gates.lines; tail = tail };
+      spelled = record { header = t.header.form; inputs = s.inputs.lines; latches = s.latches.lines; outputs = s.outputs.lines; bad_lines = s.bads.lines; constraints = s.constraints.lines; gates = s.gates.lines; tail = tail };
       counts = s.counts;
       properties = s.properties;
       file = t.small;

@@ -16,9 +16,9 @@ use Rattle.aig_model.specs.declared.netlist.AndGate.{AndGate}
 use Rattle.aig_model.specs.Netlist.{IsNew}
 use Rattle.aiger_lines.specs.declared.refusal.ReadRefusal.{ReadRefusal}
 use Rattle.aiger_lines.specs.declared.refusal.ReadRefusal.TheVariants as refusal
-use Rattle.aiger_lines.specs.Lines.{AreLines, IsLiteralLine, reset_number, HasReset}
+use Rattle.aiger_lines.specs.Lines.{AreLines, IsLiteralLine, IsUsed, TakesItem, TakesItems, reset_number, HasReset}
 use Rattle.aiger_lines.specs.Reading.{place, numbers_at, one_number, used_at, reset_at}
-use Rattle.aiger_lines.proofs.SectionLemmas.{TakesItem, TakesItems, items_from_chain, numbers_take, numbers_again, one_takes, IsUsed, used_takes, used_again, reset_takes, reset_again}
+use Rattle.aiger_lines.proofs.SectionLemmas.{items_from_chain, numbers_take, numbers_again, one_takes, used_takes, used_again, reset_takes, reset_again}
 use Rattle.aiger_ascii.specs.Grammar.{IsLatchLine, IsGateLine}
 use Rattle.aiger_ascii.specs.Reading.{State, new_at, define_at, defining_at, input_from, input_at, latch_numbers, latch_from, latch_at, gate_numbers, gate_from, gate_at}
 use Rattle.aiger_ascii.proofs.DefineLemmas.{marked, AreFresh}

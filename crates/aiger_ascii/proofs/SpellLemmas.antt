@@ -15,11 +15,11 @@ use Rattle.aig_model.specs.Netlist.{IsNew, gate_var, definitions}
 use Rattle.aig_model.specs.Refusals.{netlist_of, uses, AreInRange, AreOnce}
 use Rattle.aiger_lines.specs.declared.form.Form.TheVariants.{Ascii}
 use Rattle.aiger_lines.specs.declared.sizes.Header.{Header}
-use Rattle.aiger_lines.specs.Lines.{IsLiteralLine}
+use Rattle.aiger_lines.specs.Lines.{IsLiteralLine, IsUsed}
 use Rattle.aiger_lines.specs.Reading.{literal_at, header_at}
 use Rattle.aiger_lines.proofs.ListLemmas.{all_front, all_back, all_from_at, all_with, all_unmapped}
 use Rattle.aiger_lines.proofs.HeaderLemmas.{header_again}
-use Rattle.aiger_lines.proofs.SectionLemmas.{IsUsed, literals_again}
+use Rattle.aiger_lines.proofs.SectionLemmas.{literals_again}
 use Rattle.aiger_ascii.specs.Grammar.{IsLatchLine, IsGateLine, Sections, text_of, Counts, AreSpelled, Spells}
 use Rattle.aiger_ascii.specs.Reading.{State, input_from, input_at, latch_from, latch_at, gate_from, gate_at, state_before, sections_at, File, file_at}
 use Rattle.aiger_ascii.proofs.DefineLemmas.{marked, AreFresh, fresh_front, fresh_back, marked-append, apart_fresh}

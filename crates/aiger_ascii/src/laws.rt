@@ -1,4 +1,4 @@
-//! Bytes spell at most one design, and then they have no fault.
+//! Bytes spell at most one design, or they have at most one first fault.
 
 ghost use Rattle.std.specs.Prelude.{◌≡◌, ℕ, List};
 ghost use Rattle.ja_base.specs.Circuit.{Circuit};
@@ -12,4 +12,8 @@ pub fn text_has_one_design()
 
 pub fn design_has_no_fault()
     ensures { (bytes : List ℕ) (c : Circuit) (fault : ReadRefusal) → IsAsciiDesign bytes c → IsFirstFault bytes fault → ⊥ }
+{}
+
+pub fn faults_agree()
+    ensures { (bytes : List ℕ) (a b : ReadRefusal) → IsFirstFault bytes a → IsFirstFault bytes b → a ≡ b }
 {}

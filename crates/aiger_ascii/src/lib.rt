@@ -10,5 +10,8 @@ mod laws;
 mod read;
 mod sections;
 
-pub use laws::{design_has_no_fault, text_has_one_design};
+pub use laws::{design_has_no_fault, faults_agree, text_has_one_design};
 pub use read::read_ascii;
+
+#[cfg(test)]
+mod tests;

@@ -4,6 +4,7 @@ use Rattle.std.specs.Prelude.{option_and_then, ok_or, ◌||◌}
 use Rattle.std.proofs.lemmas.Bool.{eqb-true}
 use Rattle.std.proofs.lemmas.Bool.Decides.{nat_tests}
 use Rattle.std.proofs.lemmas.Option.{option_and_then_some, same_Some}
+use Rattle.ja_text.specs.Forms.{BeginsWith}
 use Rattle.ja_text.specs.Lines.{byte_at, space_at}
 use Rattle.ja_text.specs.Rows.{IsRow, TakesRow, row_at}
 use Rattle.ja_text.specs.Reading.{◌>>=◌}
@@ -33,10 +34,8 @@ word_again [] rest = refl
 word_again (b ∷ bs) rest = rw (byte_again b (bs ++ rest)) (word_again bs rest)
 
 -- the bytes begin with a header line of these sizes
-pub record TakesHeader (form : Form) (bytes : List ℕ) (h : Header) (rest : List ℕ) : Type 0 where
-  pub text : List ℕ
-  pub line : IsHeaderLine form text h
-  pub parts : bytes ≡ text ++ rest
+abbrev pub TakesHeader : Form → List ℕ → Header → List ℕ → Type 0
+TakesHeader form bytes h rest = BeginsWith (λ text. IsHeaderLine form text h) bytes rest
 
 five_or_more : (m : ℕ) → ltb m 5 ≡ false → 5 ≤ m
 five_or_more m h = grind (arith, nat_tests)
@@ -57,7 +56,7 @@ line_of form bytes after row x h rest parts next taken sizes =
     let whole : bytes ≡ (word_of form ++ 32 ∷ taken.row.text) ++ rest = parts ∙ ap (λ (k : List ℕ). word_of form ++ k) (next ∙ ap (λ (k : List ℕ). 32 ∷ k) (taken.row.parts ∙ ap (λ (k : List ℕ). taken.row.text ++ k) rest-is)) ∙ sym (append_assoc (word_of form) (32 ∷ taken.row.text) rest) in
     record {
       text = word_of form ++ 32 ∷ taken.row.text;
-      line = record { row = taken.row.text; numbers = x.0; text_is = refl; spelled = taken.row.form; five = five_or_more (length x.0) s.0; nine = taken.few; header_is = sym h-is };
+      form = record { row = taken.row.text; numbers = x.0; text_is = refl; spelled = taken.row.form; five = five_or_more (length x.0) s.0; nine = taken.few; header_is = sym h-is };
       parts = whole;
     }
 

@@ -13,24 +13,10 @@ use Rattle.aig_model.specs.declared.netlist.Reset.{Reset}
 use Rattle.aig_model.specs.declared.netlist.Reset.TheVariants.{Zero, One, Free}
 use Rattle.aiger_lines.specs.declared.refusal.ReadRefusal.{ReadRefusal}
 use Rattle.aiger_lines.specs.declared.refusal.ReadRefusal.TheVariants as refusal
-use Rattle.aiger_lines.specs.Lines.{AreLines, IsLiteralLine, reset_number}
+use Rattle.aiger_lines.specs.Lines.{AreLines, IsLiteralLine, IsUsed, TakesItem, TakesItems, reset_number}
 use Rattle.aiger_lines.specs.Reading.{place, line_fault, numbers_at, one_number, used_at, reset_at, literal_at}
 
 -- ---- an item and a section
-
--- the line of an item was read: the bytes are its text, and the rest
-pub record TakesItem {X : Type 0} (IsLine : List ℕ → X → Type 0) (InRange : X → Type 0) (bytes : List ℕ) (x : X) (rest : List ℕ) : Type 0 where
-  pub line : List ℕ
-  pub parts : bytes ≡ line ++ rest
-  pub form : IsLine line x
-  pub range : InRange x
-
--- a line for each of these items was read
-pub record TakesItems {X : Type 0} (IsLine : List ℕ → X → Type 0) (InRange : X → Type 0) (bytes : List ℕ) (xs : List X) (rest : List ℕ) : Type 0 where
-  pub text : List ℕ
-  pub parts : bytes ≡ text ++ rest
-  pub lines : AreLines IsLine text xs
-  pub range : AllByRecursion InRange xs
 
 module _ {X S : Type 0} (IsLine : List ℕ → X → Type 0) (InRange : X → Type 0) (P : S → X → S → Type 0) (left : S → List ℕ) where
   pub items_from_chain : ((s : S) (x : X) (t : S) → P s x t → TakesItem IsLine InRange (left s) x (left t)) → (s : S) (xs : List X) (t : S) → Chain P s xs t
@@ -66,10 +52,6 @@ is_at_most m n h = grind (arith, nat_tests)
 
 tests_at_most : (m n : ℕ) → m ≤ n → leb m n ≡ true
 tests_at_most m n h = grind (arith, nat_tests)
-
--- a literal that may be used
-abbrev pub IsUsed : ℕ → ℕ → Type 0
-IsUsed vars l = l ≤ 2 * vars + 1
 
 pub used_takes : (vars at n l : ℕ) → used_at vars at n ≡ Ok l → IsUsed vars l × (n ≡ l)
 used_takes vars at n l e =

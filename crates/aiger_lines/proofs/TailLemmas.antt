@@ -163,3 +163,25 @@ module _ (h : Header) where
 pub tail_has_none : (h : Header) (text rest : List ℕ) → IsTail h text → HasBadLine h text rest → ⊥
 unfolding front_of
 tail_has_none h text rest t b = ends_or_bad h t.lines.lines b.lines.lines t.rest rest t.lines.passed b.lines.passed (sym t.lines.text_is ∙ b.lines.text_is) t.ends b.not_passed b.no_comments
+
+-- ---- a text has one bad line
+
+abbrev IsUnpassed : Header → List ℕ → Type 0
+IsUnpassed h bytes = IsPassedOver h (first_line bytes) → ⊥
+
+passed_first : (h : Header) (line : List ℕ) (lines : List (List ℕ)) (rest bytes : List ℕ) → IsPassedOver h line → bytes ≡ front_of (line ∷ lines) ++ rest → IsPassedOver h (first_line bytes)
+passed_first h line lines rest bytes p e =
+    subst (λ (k : List ℕ). IsPassedOver h k) (sym (ap first_line (e ∙ front-cons line lines rest) ∙ first_line_of line (front_of lines ++ rest) (passed_one h line p))) p
+
+same_bad : (h : Header) (lines others : List (List ℕ)) (a b : List ℕ) → AllByRecursion (IsPassedOver h) lines → AllByRecursion (IsPassedOver h) others → front_of lines ++ a ≡ front_of others ++ b → IsUnpassed h a → IsUnpassed h b → a ≡ b
+unfolding front_of
+same_bad h [] [] a b passed passed' e unpassed unpassed' = e
+same_bad h [] (other ∷ others) a b passed passed' e unpassed unpassed' = absurd (unpassed (passed_first h other others b a passed'.0 e))
+same_bad h (line ∷ lines) [] a b passed passed' e unpassed unpassed' = absurd (unpassed' (passed_first h line lines a b passed.0 (sym e)))
+same_bad h (line ∷ lines) (other ∷ others) a b passed passed' e unpassed unpassed' =
+    let same = line_one line other (front_of lines ++ a) (front_of others ++ b) (passed_one h line passed.0) (passed_one h other passed'.0) (sym (front-cons line lines a) ∙ e ∙ front-cons other others b) in
+    same_bad h lines others a b passed.1 passed'.1 same.1 unpassed unpassed'
+
+pub bad_line_one : (h : Header) (text a b : List ℕ) → HasBadLine h text a → HasBadLine h text b → a ≡ b
+unfolding front_of
+bad_line_one h text a b s t = same_bad h s.lines.lines t.lines.lines a b s.lines.passed t.lines.passed (sym s.lines.text_is ∙ t.lines.text_is) s.not_passed t.not_passed

@@ -5,6 +5,7 @@
 
 mod form;
 mod header;
+mod laws;
 mod lines;
 mod refusal;
 mod sizes;
@@ -12,6 +13,7 @@ mod tail;
 
 pub use form::Form;
 pub use header::read_header;
+pub use laws::{header_is_exact, literals_are_exact, reset_is_exact, tail_is_exact};
 pub use lines::{literal, literals, numbers, one_number, place, reset, used_literal};
 pub use refusal::{Large, ReadRefusal};
 pub use sizes::Header;
