@@ -8,6 +8,8 @@ mod literal;
 mod memory;
 mod meter;
 mod row;
+#[cfg(test)]
+mod tests;
 
 pub use clause::{Clause, ClauseList};
 pub use items::{Items, Lits, Props};

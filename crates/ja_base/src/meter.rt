@@ -1,6 +1,6 @@
 //! The meter of a budget.
 
-ghost use Rattle.std.specs.Prelude.{◌≡◌, ◌+◌, ◌<◌, ◌≤◌, ◌↔◌, Some, IsSome, IsErr, IfSome, OnOk, OnErr};
+ghost use Rattle.std.specs.Prelude.{◌≡◌, ◌+◌, ◌<◌, ◌≤◌, ◌↔◌, Some, IsTrue, IsSome, IsErr, IfSome, OnOk, OnErr};
 ghost use Rattle.ja_base.specs.Meter.{next_count};
 
 use std::marker::Model;
@@ -65,7 +65,7 @@ impl Meter {
         ensures spent_later { self.old.spent ≤ self.new.spent }
         ensures refused_later { self.old.refused ≤ self.new.refused }
     {
-        if self.limit == Some(self.spent) {
+        if self.is_at_limit() {
             self.refused = self.refused.saturating_add(1);
             return Err(Spent);
         }
@@ -77,10 +77,16 @@ impl Meter {
         ensures exact { IsSome result ↔ (self.now.limit ≡ Some self.now.spent) }
         ensures units { IfSome result (λ note. note ≡ self.now.spent) }
     {
-        if self.limit == Some(self.spent) {
+        if self.is_at_limit() {
             Some(SpentNote(self.spent))
         } else {
             None
         }
+    }
+
+    fn is_at_limit(&self) -> bool
+        ensures { IsTrue result ↔ (self.now.limit ≡ Some self.now.spent) }
+    {
+        self.limit == Some(self.spent)
     }
 }
