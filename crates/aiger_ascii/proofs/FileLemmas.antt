@@ -57,7 +57,7 @@ lists_of h inputs latches outputs bads constraints gates = record {
   bads = cond (eqb h.bads 0) outputs bads;
   constraints = constraints;
   outputs = outputs;
-  gates = gates
+  gates = gates;
 }
 
 bind_then : {A B F P : Type 0} (r : Result A F) (f : A → Result B F) (y : B) → (r >>= f) ≡ Ok y → ((x : A) → r ≡ Ok x → f x ≡ Ok y → P) → P
@@ -151,7 +151,7 @@ within_row h bytes p tail t =
     let L = map (λ (k : Latch). variable k.lit) p.latches in
     all_join W (I ++ L) (map gate_var p.gates)
     (all_join W I L (all_mapped variable (IsNew h.vars) W (λ l new. new_variable h.vars l new) p.inputs t.inputs.range)
-      (all_mapped (λ (k : Latch). variable k.lit) (IsLatchInRange h.vars) W (λ k range. new_variable h.vars k.lit range.lit) p.latches t.latches.range))
+    (all_mapped (λ (k : Latch). variable k.lit) (IsLatchInRange h.vars) W (λ k range. new_variable h.vars k.lit range.lit) p.latches t.latches.range))
     (all_mapped gate_var (IsGateInRange h.vars) W (λ g range. new_variable h.vars g.lhs range.lhs) p.gates t.gates.range)
 
 pub sections_once : (h : Header) (bytes : List ℕ) (p : Parts) (tail : List ℕ) → TakesSections h bytes p tail → AreOnce p
@@ -172,12 +172,12 @@ uses_used h bytes p tail t =
     let bads : AllByRecursion U p.bads = subst (λ (k : List ℕ). AllByRecursion U k) (sym t.properties) (bads_used h.vars (eqb h.bads 0) p.outputs t.bad_lits t.outputs.range t.bads.range) in
     all_join U (N ++ p.outputs ++ p.bads ++ p.constraints ++ R0) R1
     (all_join U (N ++ p.outputs ++ p.bads ++ p.constraints) R0
-      (all_join U (N ++ p.outputs ++ p.bads) p.constraints
-        (all_join U (N ++ p.outputs) p.bads
-          (all_join U N p.outputs (all_mapped (λ (k : Latch). k.next) (IsLatchInRange h.vars) U (λ k range. range.next) p.latches t.latches.range) t.outputs.range)
-          bads)
-        t.constraints.range)
-      (all_mapped (λ (g : AndGate). g.rhs0) (IsGateInRange h.vars) U (λ g range. range.rhs0) p.gates t.gates.range))
+    (all_join U (N ++ p.outputs ++ p.bads) p.constraints
+    (all_join U (N ++ p.outputs) p.bads
+    (all_join U N p.outputs (all_mapped (λ (k : Latch). k.next) (IsLatchInRange h.vars) U (λ k range. range.next) p.latches t.latches.range) t.outputs.range)
+    bads)
+    t.constraints.range)
+    (all_mapped (λ (g : AndGate). g.rhs0) (IsGateInRange h.vars) U (λ g range. range.rhs0) p.gates t.gates.range))
     (all_mapped (λ (g : AndGate). g.rhs1) (IsGateInRange h.vars) U (λ g range. range.rhs1) p.gates t.gates.range)
 
 -- the same of the lists' own number of variables

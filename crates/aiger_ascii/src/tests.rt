@@ -25,10 +25,7 @@ fn each_refusal(rt: HostRuntime) {
             b"aag 2 0 0 0 2 1\n2\n2 4 4\n4 2 2\n",
             ReadRefusal::Cycle { var: Var(1) },
         ),
-        (
-            b"aag 1 1 0 0 0\n2\ni1 x\n",
-            ReadRefusal::Symbol { at: 16 },
-        ),
+        (b"aag 1 1 0 0 0\n2\ni1 x\n", ReadRefusal::Symbol { at: 16 }),
     ];
     for (bytes, want) in table {
         let refused = read_ascii(rt.alloc(), bytes).err();
@@ -52,10 +49,16 @@ fn headers(rt: HostRuntime) {
         (b"aag\n0 0 0 0 0\n", header),
         (b"aig 0 0 0 0 0\n", header),
         (b"aag 1 1 0 0 1\n", header),
-        (b"aag 0 18446744073709551615 18446744073709551615 0 0\n", header),
+        (
+            b"aag 0 18446744073709551615 18446744073709551615 0 0\n",
+            header,
+        ),
         (b"aag 1 2 0 0 0 20001\n", header),
         (b"aag 1 2 0 0 0 0 0 0 1\n", ReadRefusal::Liveness),
-        (b"aag 0 0 0 0 0 0 0 18446744073709551616\n", ReadRefusal::Liveness),
+        (
+            b"aag 0 0 0 0 0 0 0 18446744073709551616\n",
+            ReadRefusal::Liveness,
+        ),
         (
             b"aag 500001 0 0 0 0 0 0 1\n",
             ReadRefusal::TooLarge { what: Large::Vars },
@@ -89,7 +92,10 @@ fn lines_of_sections(rt: HostRuntime) {
         // What is defined is even, from 2 to 2M.
         (b"aag 1 1 0 0 0\n0\n", ReadRefusal::Range { at: 14 }),
         (b"aag 1 1 0 0 0\n4\n", ReadRefusal::Range { at: 14 }),
-        (b"aag 1 1 0 0 0\n4294967298\n", ReadRefusal::Range { at: 14 }),
+        (
+            b"aag 1 1 0 0 0\n4294967298\n",
+            ReadRefusal::Range { at: 14 },
+        ),
         (
             b"aag 1 1 0 0 0\n18446744073709551618\n",
             ReadRefusal::Range { at: 14 },
@@ -120,7 +126,10 @@ fn behind_the_gates(rt: HostRuntime) {
             b"aag 2 0 0 0 0 1\n4\nzz\n",
             ReadRefusal::Undefined { var: Var(2) },
         ),
-        (b"aag 1 0 0 0 1\n2 2 2\nzz\n", ReadRefusal::Cycle { var: Var(1) }),
+        (
+            b"aag 1 0 0 0 1\n2 2 2\nzz\n",
+            ReadRefusal::Cycle { var: Var(1) },
+        ),
         // An output that is no property is looked at too.
         (
             b"aag 2 0 0 1 0 1\n4\n0\n",
@@ -145,11 +154,17 @@ fn behind_the_gates(rt: HostRuntime) {
             b"aag 1 1 0 0 0\n2\ni18446744073709551616 x\n",
             ReadRefusal::Symbol { at: 16 },
         ),
-        (b"aag 1 0 1 0 0\n2 0\nl1 x\n", ReadRefusal::Symbol { at: 18 }),
+        (
+            b"aag 1 0 1 0 0\n2 0\nl1 x\n",
+            ReadRefusal::Symbol { at: 18 },
+        ),
         (b"aag 0 0 0 1 0\n0\no1 x\n", ReadRefusal::Symbol { at: 16 }),
         // The outputs are the properties, and there are no bads.
         (b"aag 0 0 0 1 0\n0\nb0 x\n", ReadRefusal::Symbol { at: 16 }),
-        (b"aag 0 0 0 0 0 1\n0\nb1 x\n", ReadRefusal::Symbol { at: 18 }),
+        (
+            b"aag 0 0 0 0 0 1\n0\nb1 x\n",
+            ReadRefusal::Symbol { at: 18 },
+        ),
         (b"aag 0 0 0 0 0\nc0\n", ReadRefusal::Symbol { at: 14 }),
         (b"aag 0 0 0 0 0\nc0 x\n", ReadRefusal::Symbol { at: 14 }),
         (b"aag 0 0 0 0 0\nj0 x\n", ReadRefusal::Symbol { at: 14 }),
