@@ -16,7 +16,10 @@ pub struct FileShelf<'a, R: Files> {
 }
 
 impl<'a, R: Files> FileShelf<'a, R> {
-    pub fn new(rt: &'a R) -> FileShelf<'a, R> {
+    /// No file is selected.
+    pub fn new(rt: &'a R) -> FileShelf<'a, R>
+        ensures { result.faults ≡ 0 }
+    {
         FileShelf {
             rt,
             file: None,
