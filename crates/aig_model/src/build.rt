@@ -39,7 +39,8 @@ impl Design {
         if let Some(var) = defined.first_undefined(&parts) {
             return Err(OrMemory::Refused(BuildRefusal::Undefined(var)));
         }
-        match ordered_gates(alloc, parts.vars, parts.gates.as_slice()) {
+        let given = parts.gates.as_slice();
+        match ordered_gates(alloc, parts.vars, given) {
             Ok(gates) => Ok(Design::from_parts(parts, gates)),
             Err(OrMemory::Refused(var)) => Err(OrMemory::Refused(BuildRefusal::Cycle(var))),
             Err(OrMemory::Memory) => Err(OrMemory::Memory),

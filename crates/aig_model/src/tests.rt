@@ -6,8 +6,10 @@ ghost use Rattle.aig_model.specs.Refusals.{AreInRange};
 ghost use Rattle.aig_model.specs.Ranges.{AreNew, AreUsable};
 ghost use Rattle.aig_model.specs.Definitions.{nexts};
 
-use crate::{AndGate, AndGates, BuildRefusal, Design, Latch, Latches, Parts, Reset};
-use ja_base::{Items, Lit, Lits, Memory, OrMemory, Var};
+use crate::{
+    AndGate, AndGates, BuildRefusal, Design, Expect, Latch, Latches, Parts, Reset, Stimulus, Task,
+};
+use ja_base::{Items, Lit, Lits, Memory, OrMemory, Row as Bits, Rows, Var};
 use std::alloc::Global;
 use std::process::Abort;
 use std::test::Fail;
@@ -425,5 +427,36 @@ fn refuses_a_long_cycle(rt: HostRuntime) -> Result<(), Fail> {
         ..EMPTY
     };
     assert_eq!(rt; refusal_of(&rt, rt.alloc(), &row)?, cycle(2));
+    Ok(())
+}
+
+#[test]
+fn shares_a_task(rt: HostRuntime) -> Result<(), Fail> {
+    let alloc = rt.alloc();
+    let row = Row {
+        vars: 1,
+        inputs: &[2],
+        bads: &[2, 3],
+        ..EMPTY
+    };
+    let design = match Design::build(alloc, parts_of(&rt, alloc, &row)?) {
+        Ok(design) => design,
+        Err(_) => return Err(Fail::from(Memory)),
+    };
+    let mut expect = Expect::all(alloc, design.props())?;
+    assert_eq!(rt; (design.props(), expect.len()), (2, 2));
+    expect.set_fail(1);
+    let task = Task::new(alloc, design, expect)?;
+    let shared = task.share()?;
+    assert_eq!(rt; shared.design().bad(0), Lit(2));
+    assert_eq!(rt;
+        (shared.expect().is_assumed(0), shared.expect().is_assumed(1)),
+        (true, false)
+    );
+    let stimulus = Stimulus::new(
+        Bits::zeros(alloc, 0)?,
+        Rows::one(alloc, Bits::ones(alloc, 1)?)?,
+    );
+    assert_eq!(rt; (stimulus.first().len(), stimulus.inputs().len()), (0, 1));
     Ok(())
 }
