@@ -1,5 +1,5 @@
 -- A design from lists that break no rule, with its gates in an order: it is sound, and its circuit is that of the lists.
-use Rattle.std.proofs.Common.{◌≡◌, ◌≢◌, ℕ, zero, suc, ◌+◌, ◌*◌, ◌<◌, ◌≤◌, Bool, true, false, cond, ◌||◌, eqb, Option, Some, None, List, [], ◌∷◌, ◌++◌, length, map, slice_get, ◌⊎◌, inl, inr, ⊎_elim, refl, sym, ap, ◌∙◌, subst, arith}
+use Rattle.std.proofs.Common.{◌≡◌, ◌≢◌, ℕ, zero, suc, ◌+◌, ◌<◌, true, false, eqb, Option, Some, None, List, [], ◌∷◌, ◌++◌, length, map, slice_get, ◌⊎◌, inl, inr, ⊎_elim, refl, sym, ap, ◌∙◌, arith}
 use Rattle.std.specs.List.{list_any}
 use Rattle.std.specs.FinMap as finite_map
 use Rattle.std.specs.FinMap.{get-from_entries, find, same_map, nat_cmp-IsAntisymmetric}
@@ -7,18 +7,17 @@ use Rattle.std.specs.Cmp.{nat_cmp_total, unsigned_ties}
 use Rattle.std.specs.Ordering.{nat_cmp, eq_by_cmp}
 use Rattle.std.proofs.lemmas.List.Folds.{list_any-append}
 use Rattle.std.proofs.lemmas.Option.{slice_get_within}
-use Rattle.std.proofs.lemmas.Bool.{cases_Bool, cases_order, false≢true, eqb-true, eq-eqb, ne_eqb, or_cases, or_left, or_right, cond-true, cond-false}
+use Rattle.std.proofs.lemmas.Bool.{cases_Bool, eqb-true, eq-eqb, ne_eqb, or_cases, or_left, or_right, cond-true, cond-false}
 use Rattle.ja_base.specs.Literals.{variable}
 use Rattle.ja_base.specs.Circuit as plain
 use Rattle.aig_model.specs.declared.netlist.Latch.{Latch}
 use Rattle.aig_model.specs.declared.netlist.AndGate.{AndGate}
 use Rattle.aig_model.specs.declared.netlist.Parts.{Parts}
-use Rattle.aig_model.specs.Netlist.{Netlist, circuit, entry_of, gate_var, latch_of, definitions, IsNew, IsKnown, AreApart, IsBefore, IsSoundLatch, IsSoundGate, IsSound}
+use Rattle.aig_model.specs.Netlist.{circuit, entry_of, gate_var, definitions, IsKnown, AreApart, IsSound}
 use Rattle.aig_model.specs.Refusals.{netlist_of, with_gates, uses, AreInRange, AreOnce, AreDefined, MakesDesign}
-use Rattle.aig_model.specs.Order.{HasGate, IsOrderOf, IsWithin, AreGates, Has}
-use Rattle.aig_model.specs.Definitions.{nexts}
+use Rattle.aig_model.specs.Order.{HasGate, IsOrderOf, AreGates, Has}
 use Rattle.aig_model.proofs.Places.{get_left, get_right, get_map, map_cases, append_cases, apart_at, AreApart-from_at}
-use Rattle.aig_model.proofs.GateHeights.{HasEntry, found}
+use Rattle.aig_model.proofs.GateHeights.{found}
 use Rattle.aig_model.proofs.Uses.{Contains-from_Has, next_used, bad_used, constraint_used, rhs0_used, rhs1_used, used_within, new_within}
 use Rattle.aig_model.proofs.WalkEnd.{acyclic_from_order}
 

@@ -1,5 +1,5 @@
 -- The least number with a property, when the property says the same otherwise, or holds of one more number.
-use Rattle.std.proofs.Common.{◌≡◌, ℕ, ◌<◌, ◌≤◌, Bool, true, false, cond, ltb, Option, Some, None, ◌⊎◌, ⊎_elim, refl, arith}
+use Rattle.std.proofs.Common.{◌≡◌, ℕ, Bool, true, false, cond, ltb, Option, Some, None, ◌⊎◌, ⊎_elim, refl, arith}
 use Rattle.std.proofs.lemmas.Bool.{ltb-true, ltb-false}
 use Rattle.ja_base.specs.Replay.{IsLeast}
 use Rattle.aig_model.specs.Least.{IsLeastOf}

@@ -11,3 +11,4 @@ pub mod Uses
 pub mod Twice
 pub mod Assembly
 pub mod RefusalLemmas
+pub mod Ranges

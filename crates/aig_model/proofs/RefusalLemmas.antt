@@ -1,5 +1,5 @@
 -- At most one refusal of lists is right, and none where they make a design.
-use Rattle.std.proofs.Common.{◌≡◌, ℕ, ◌<◌, ⊎_elim, sym, ap}
+use Rattle.std.proofs.Common.{◌≡◌, ℕ, ⊎_elim, ap}
 use Rattle.std.proofs.lemmas.Bool.{cases_order}
 use Rattle.ja_base.specs.Replay.{IsLeast}
 use Rattle.aig_model.specs.declared.netlist.Parts.{Parts}

@@ -1,17 +1,17 @@
 -- The literals that are used, in the order of the lists and gate by gate.
-use Rattle.std.proofs.Common.{◌≡◌, ℕ, zero, suc, ◌+◌, ◌*◌, ◌<◌, ◌≤◌, Bool, false, List, [], ◌∷◌, ◌++◌, length, get_or, map, Option, Some, None, slice_get, ◌⊎◌, inl, inr, ⊎_elim, refl, sym, ap, ◌∙◌, subst, arith}
-use Rattle.std.specs.List.{list_any, Contains}
+use Rattle.std.proofs.Common.{◌≡◌, ℕ, zero, suc, ◌+◌, ◌<◌, List, [], ◌∷◌, ◌++◌, length, map, Option, Some, slice_get, ◌⊎◌, inl, inr, ⊎_elim, sym, ap, ◌∙◌, arith}
+use Rattle.std.specs.List.{Contains}
 use Rattle.std.proofs.lemmas.Option.{slice_get-get_or, slice_get_within, get_or_from_slice_get}
-use Rattle.ja_base.specs.Literals.{bit, variable}
+use Rattle.ja_base.specs.Literals.{variable}
 use Rattle.aig_model.specs.declared.netlist.Latch.{Latch}
 use Rattle.aig_model.specs.declared.netlist.AndGate.{AndGate}
 use Rattle.aig_model.specs.declared.netlist.Parts.{Parts}
 use Rattle.aig_model.specs.declared.definitions.Defined.{Defined}
-use Rattle.aig_model.specs.Netlist.{IsNew, definitions}
-use Rattle.aig_model.specs.Refusals.{netlist_of, uses, AreInRange, IsUndefined}
+use Rattle.aig_model.specs.Netlist.{IsNew}
+use Rattle.aig_model.specs.Refusals.{uses, AreInRange, IsUndefined}
 use Rattle.aig_model.specs.Least.{IsLeastOf}
 use Rattle.aig_model.specs.Order.{Has}
-use Rattle.aig_model.specs.Definitions.{AreWithin, IsTableOf, IsMissing, Checks, rights, nexts}
+use Rattle.aig_model.specs.Definitions.{AreWithin, IsTableOf, IsMissing, rights, nexts}
 use Rattle.aig_model.proofs.LeastLemmas.{least_same}
 use Rattle.aig_model.proofs.Places.{get_left, get_right, get_map, map_cases, append_cases}
 

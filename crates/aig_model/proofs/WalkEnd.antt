@@ -1,15 +1,14 @@
 -- What stands when no gate waits and the path is empty.
-use Rattle.std.proofs.Common.{◌≡◌, ◌≢◌, ℕ, suc, ◌+◌, ◌<◌, ◌≤◌, Bool, true, false, List, [], ◌∷◌, length, get_or, map, Option, Some, None, slice_get, ◌⊎◌, inl, inr, ⊎_elim, refl, sym, ap, ◌∙◌, subst, arith}
-use Rattle.std.proofs.lemmas.List.{get_or_past}
+use Rattle.std.proofs.Common.{◌≡◌, ℕ, ◌+◌, ◌<◌, ◌≤◌, true, false, List, [], length, Some, slice_get, ⊎_elim, refl, sym, ap, ◌∙◌, arith}
 use Rattle.std.proofs.lemmas.Option.{slice_get_within, same_Some}
-use Rattle.std.proofs.lemmas.Bool.{cases_eq, cases_lt, false≢true, false_from_ne_true}
+use Rattle.std.proofs.lemmas.Bool.{cases_eq, false_from_ne_true}
 use Rattle.ja_base.specs.Literals.{variable}
 use Rattle.ja_base.specs.Replay.{IsLeast}
 use Rattle.aig_model.specs.declared.netlist.AndGate.{AndGate}
 use Rattle.aig_model.specs.declared.order.Standing.{Standing}
 use Rattle.aig_model.specs.declared.order.Standing.TheVariants.{Ready, Waiting, Reached}
 use Rattle.aig_model.specs.declared.order.Walk.{Walk}
-use Rattle.aig_model.specs.Netlist.{gate_var, AreApart, IsBefore}
+use Rattle.aig_model.specs.Netlist.{gate_var, IsBefore}
 use Rattle.aig_model.specs.Refusals.{Leads, ReachesCycle}
 use Rattle.aig_model.specs.Order.{HasGate, standing_of, is_waiting, is_reached, IsPart, IsWalkPath, IsOrderOf, IsWalk, AreMet, StaysMet}
 use Rattle.aig_model.proofs.GateHeights.{height, height_at, height_before}

@@ -1,16 +1,16 @@
 -- The table in which each gate waits, and the walk that begins with it.
-use Rattle.std.proofs.Common.{◌≡◌, ◌≢◌, ℕ, suc, ◌+◌, ◌*◌, ◌<◌, ◌≤◌, Bool, true, false, cond, List, [], ◌∷◌, length, get_or, set, replicate, count_by, map, Some, None, slice_get, ◌⊎◌, inl, inr, ⊎_elim, refl, sym, ap, ◌∙◌, subst, arith}
-use Rattle.std.proofs.lemmas.List.{length-replicate, get_or-replicate, get_or_past, get_or-set_same}
+use Rattle.std.proofs.Common.{◌≡◌, ◌≢◌, ℕ, ◌+◌, ◌<◌, cond, List, [], length, set, replicate, Some, slice_get, ⊎_elim, sym, ap, ◌∙◌, arith}
+use Rattle.std.proofs.lemmas.List.{length-replicate, get_or-replicate, get_or_past}
 use Rattle.std.proofs.lemmas.List.Sums.{sum_by-set}
 use Rattle.std.proofs.lemmas.List.Folds.{sum_by-replicate}
 use Rattle.std.proofs.lemmas.Option.{slice_get_within, same_Some}
-use Rattle.std.proofs.lemmas.Bool.{cases_lt, cases_eq, false≢true}
+use Rattle.std.proofs.lemmas.Bool.{cases_lt, false≢true}
 use Rattle.aig_model.specs.declared.netlist.AndGate.{AndGate}
 use Rattle.aig_model.specs.declared.order.Standing.{Standing}
-use Rattle.aig_model.specs.declared.order.Standing.TheVariants.{Ready, Waiting, Reached}
+use Rattle.aig_model.specs.declared.order.Standing.TheVariants.{Ready, Waiting}
 use Rattle.aig_model.specs.declared.order.Walk.{Walk}
-use Rattle.aig_model.specs.Netlist.{gate_var, AreApart}
-use Rattle.aig_model.specs.Order.{AreGates, standing_of, is_waiting, is_reached, Defines, AreWaiting, IsTable, IsPart, IsWalkPath, HasRoom, IsWalk}
+use Rattle.aig_model.specs.Netlist.{gate_var}
+use Rattle.aig_model.specs.Order.{AreGates, standing_of, is_waiting, is_reached, AreWaiting, HasRoom, IsWalk}
 use Rattle.aig_model.proofs.WalkTable.{set_cases}
 
 all_ready : (n v : ℕ) → standing_of (replicate n Ready) v ≡ Ready

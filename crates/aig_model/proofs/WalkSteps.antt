@@ -1,16 +1,14 @@
 -- The three steps of the walk: a variable comes to the path, a gate leaves it for the order, the path ends.
-use Rattle.std.proofs.Common.{◌≡◌, ◌≢◌, ℕ, suc, ◌+◌, ◌-◌, ◌*◌, ◌<◌, ◌≤◌, Bool, true, false, cond, List, [], ◌∷◌, ◌++◌, length, get_or, set, count_by, map, Some, None, slice_get, ◌⊎◌, inl, inr, ⊎_elim, refl, sym, ap, ◌∙◌, subst, arith, length-append}
+use Rattle.std.proofs.Common.{◌≡◌, ◌≢◌, ℕ, ◌+◌, ◌-◌, ◌<◌, true, false, List, [], ◌∷◌, ◌++◌, length, get_or, count_by, Some, slice_get, ◌⊎◌, inl, inr, ⊎_elim, refl, sym, ap, ◌∙◌, arith}
 use Rattle.std.proofs.lemmas.List.{get_or-set_same, length-set, length_push}
 use Rattle.std.proofs.lemmas.Option.{slice_get_within, slice_get_read, same_Some}
-use Rattle.std.proofs.lemmas.Bool.{cases_lt, cases_eq, false≢true}
 use Rattle.ja_base.specs.Literals.{variable}
 use Rattle.aig_model.specs.declared.netlist.AndGate.{AndGate}
 use Rattle.aig_model.specs.declared.order.Standing.{Standing}
 use Rattle.aig_model.specs.declared.order.Standing.TheVariants.{Ready, Waiting, Reached}
 use Rattle.aig_model.specs.declared.order.Walk.{Walk}
-use Rattle.aig_model.specs.Netlist.{gate_var, AreApart}
-use Rattle.aig_model.specs.Refusals.{Leads}
-use Rattle.aig_model.specs.Order.{AreGates, standing_of, is_waiting, is_reached, IsTable, IsPart, IsWalkPath, HasRoom, IsWalk, Defines, IsLastGate, IsUnready, AreReady, Enters, Leaves, Ends, Steps, StaysMet, steps_left, HasGate}
+use Rattle.aig_model.specs.Netlist.{gate_var}
+use Rattle.aig_model.specs.Order.{standing_of, is_waiting, is_reached, IsWalkPath, IsWalk, Defines, IsLastGate, IsUnready, Enters, Leaves, Ends, Steps, HasGate}
 use Rattle.aig_model.proofs.Places.{get_last}
 use Rattle.aig_model.proofs.WalkTable.{Follows, waiting_within, set_cases, enter_table, enter_order, enter_path, enter_count, leave_table, leave_order, leave_path, leave_count, end_path}
 

@@ -1,5 +1,5 @@
 -- One change of a variable's standing, and what it leaves of the table, the path and the order.
-use Rattle.std.proofs.Common.{◌≡◌, ◌≢◌, ℕ, suc, ◌+◌, ◌-◌, ◌*◌, ◌<◌, ◌≤◌, Bool, true, false, cond, List, [], ◌∷◌, ◌++◌, length, get_or, set, map, count_by, Some, None, slice_get, ◌⊎◌, inl, inr, ⊎_elim, refl, sym, ap, ◌∙◌, subst, arith, length-append}
+use Rattle.std.proofs.Common.{◌≡◌, ◌≢◌, ℕ, ◌+◌, ◌<◌, true, false, cond, List, [], ◌∷◌, ◌++◌, length, get_or, set, map, count_by, Some, slice_get, ◌⊎◌, inl, inr, ⊎_elim, refl, sym, ap, ◌∙◌, subst, arith}
 use Rattle.std.proofs.lemmas.List.{get_or_past, get_or-set_same, get_or-set_other, map_push}
 use Rattle.std.proofs.lemmas.List.Sums.{sum_by-set}
 use Rattle.std.proofs.lemmas.Option.{slice_get_within, slice_get-get_or}
@@ -10,8 +10,8 @@ use Rattle.aig_model.specs.declared.order.Standing.{Standing}
 use Rattle.aig_model.specs.declared.order.Standing.TheVariants.{Ready, Waiting, Reached}
 use Rattle.aig_model.specs.Netlist.{gate_var, AreApart, IsBefore}
 use Rattle.aig_model.specs.Refusals.{Leads}
-use Rattle.aig_model.specs.Order.{HasGate, standing_of, is_waiting, is_reached, Defines, Has, LeadsAway, IsPlaced, IsPart, IsWalkPath, IsTable}
-use Rattle.aig_model.proofs.Places.{get_left, get_last, push_cases, push_within, map_cases, get_map, apart_at, one_place, AreApart-push, AreApart-front, last_is_new}
+use Rattle.aig_model.specs.Order.{standing_of, is_waiting, is_reached, Has, LeadsAway, IsPlaced, IsPart, IsWalkPath, IsTable}
+use Rattle.aig_model.proofs.Places.{get_left, get_last, push_cases, push_within, map_cases, get_map, one_place, AreApart-push, AreApart-front, last_is_new}
 
 -- the standing of u, after that of v became s
 abbrev pub SetCases : List Standing → ℕ → Standing → ℕ → Type 0

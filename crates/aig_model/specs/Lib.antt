@@ -4,3 +4,4 @@ pub mod Refusals
 pub mod Least
 pub mod Order
 pub mod Definitions
+pub mod Ranges

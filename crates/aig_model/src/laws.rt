@@ -10,17 +10,14 @@ ghost use Rattle.aig_model.specs.Refusals.{MakesDesign, IsRefusal};
 /// In the circuit of a sound netlist no gate depends on itself.
 pub fn sound_netlists_are_acyclic()
     ensures { (n : Netlist) → IsSound n → IsAcyclic (circuit n) }
-{
-}
+{}
 
 /// At most one refusal is right.
 pub fn refusals_agree()
     ensures { (p : Parts) (r q : BuildRefusal) → IsRefusal p r → IsRefusal p q → r ≡ q }
-{
-}
+{}
 
 /// Lists that make a design have no refusal.
 pub fn designs_are_not_refused()
     ensures { (p : Parts) (r : BuildRefusal) → MakesDesign p → IsRefusal p r → ⊥ }
-{
-}
+{}

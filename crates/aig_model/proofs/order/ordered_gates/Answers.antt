@@ -1,4 +1,4 @@
-use Rattle.std.proofs.Common.{◌≡◌, length, refl, ◌∙◌, arith}
+use Rattle.std.proofs.Common.{length, refl, ◌∙◌}
 use Rattle.std.proofs.lemmas.Option.{slice_get_read}
 use Rattle.aig_model.proofs.WalkEnd.{done_from, met_more, least_cycle, whole_order}
 use Rattle.aig_model.proofs.order.ordered_gates.Goals as goal

@@ -1,4 +1,4 @@
-use Rattle.std.proofs.Common.{◌≡◌, true, cond, Some, set, ap, sym, ◌∙◌, refl}
+use Rattle.std.proofs.Common.{◌≡◌, cond, Some, ap, sym, ◌∙◌, refl}
 use Rattle.std.proofs.lemmas.Bool.{cond-true, cond-false}
 use Rattle.ja_base.specs.Literals.{bit}
 use Rattle.aig_model.specs.declared.definitions.Defined.{Defined}

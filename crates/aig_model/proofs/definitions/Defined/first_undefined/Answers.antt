@@ -1,6 +1,6 @@
-use Rattle.std.proofs.Common.{◌≡◌, ℕ, None, List, [], ◌++◌}
-use Rattle.aig_model.specs.Definitions.{Checks, rights, nexts}
-use Rattle.aig_model.proofs.Uses.{within_from_used, next_used, output_used, bad_used, constraint_used, rhs0_used, rhs1_used, outside, undefined_from_missing}
+use Rattle.std.proofs.Common.{[]}
+use Rattle.aig_model.specs.Definitions.{nexts}
+use Rattle.aig_model.proofs.Uses.{within_from_used, next_used, output_used, bad_used, constraint_used, rhs0_used, rhs1_used, undefined_from_missing}
 use Rattle.aig_model.proofs.definitions.Defined.first_undefined.Goals as goal
 
 pub least_in_latches-least-requires : goal.least_in_latches-least-requires

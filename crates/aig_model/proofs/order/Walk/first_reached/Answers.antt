@@ -1,6 +1,6 @@
-use Rattle.std.proofs.Common.{◌≡◌, sym, ap, ◌∙◌}
+use Rattle.std.proofs.Common.{sym, ap, ◌∙◌}
 use Rattle.std.proofs.lemmas.Bool.{false≢true}
-use Rattle.aig_model.specs.Order.{standing_of, is_reached}
+use Rattle.aig_model.specs.Order.{is_reached}
 use Rattle.aig_model.proofs.order.Walk.first_reached.Goals as goal
 
 pub returns-in-Reached : goal.returns-in-Reached

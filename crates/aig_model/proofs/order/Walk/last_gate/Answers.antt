@@ -1,6 +1,5 @@
-use Rattle.std.proofs.Common.{◌≡◌, ap, sym, ◌∙◌}
+use Rattle.std.proofs.Common.{sym, ◌∙◌}
 use Rattle.std.proofs.lemmas.Option.{slice_get_within}
-use Rattle.aig_model.specs.Order.{is_reached}
 use Rattle.aig_model.proofs.WalkTable.{reached_within}
 use Rattle.aig_model.proofs.WalkSteps.{last_gate_is, reached_at}
 use Rattle.aig_model.proofs.order.Walk.last_gate.Goals as goal
