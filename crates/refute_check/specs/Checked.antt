@@ -11,6 +11,13 @@ pub record Numbering : Type 0 where
   pub added : List (List ℕ)
   pub kept : ℕ
 
+-- the clause came last, as one that was added
+pub record Adds (before : Numbering) (clause : List ℕ) (after : Numbering) : Type 0 where
+  pub list : after.list ≡ before.list ++ clause ∷ []
+  pub added : after.added ≡ before.added ++ clause ∷ []
+  pub kept : after.kept ≡ length after.list
+  pub room : before.spare ≤ after.spare + 1
+
 -- the clauses at these places
 abbrev pub clauses_at : List (List ℕ) → List ℕ → List (List ℕ)
 clauses_at list places = map (λ k. slice_index_or list k []) places

@@ -1,6 +1,6 @@
 -- When a line is accepted by unit propagation over a numbered list of clauses. What is known is a row with one bit a
 -- literal, set where the literal is true; a literal is false where its negation is true.
-use Rattle.std.specs.Prelude.{◌≡◌, ℕ, ◌+◌, ◌*◌, ◌&&◌, Bool, true, false, not, nat_lt, if◌then◌else◌, List, [], ◌∷◌, ◌++◌, replicate, slice_set, slice_get, filter, Option, Some, None, is_none}
+use Rattle.std.specs.Prelude.{◌≡◌, ℕ, ◌+◌, ◌*◌, ◌==◌, ◌&&◌, Bool, true, false, not, nat_lt, if◌then◌else◌, List, [], ◌∷◌, ◌++◌, replicate, slice_set, slice_get, filter, Option, Some, None, is_none}
 use Rattle.std.specs.List.{list_all}
 use Rattle.ja_base.specs.Literals.{bit, variable, negated}
 use Rattle.refute_check.specs.Refuted.{has_both_signs}
@@ -67,6 +67,11 @@ released clauses (h ∷ hints) row = released clauses hints (cleared_at (slice_g
 -- no literal is true
 abbrev pub unknown : ℕ → List Bool
 unknown vars = replicate (2 * vars) false
+
+-- l is the first of these literals
+abbrev pub first_is : ℕ → List ℕ → Bool
+first_is l [] = false
+first_is l (m ∷ ms) = m == l
 
 -- the variables are below `vars`, and none has both signs
 abbrev pub is_fit : ℕ → List ℕ → Bool

@@ -2,11 +2,16 @@
 //! `specs/Lines.antt` says; `specs/Refuted.antt` says what is shown by it.
 #![tactic(auto)]
 
+mod checker;
+mod covers;
+mod fit;
 mod found;
+mod judge;
 mod laws;
 mod lines;
 mod numbered;
 mod propagate;
 
+pub use checker::{Checker, LineRefused};
 pub use laws::{accepted_lines_hold, what_is_covered_is_refuted};
 pub use lines::{Hints, Line, Lines, Proofs, Refuted};
