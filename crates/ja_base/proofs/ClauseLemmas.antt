@@ -44,7 +44,7 @@ abbrev pub Ascends : List ℕ → Type 0
 Ascends [] = Unit {0}
 Ascends (x ∷ xs) = IsAbove x xs × Ascends xs
 
-IsAbove-lower : (x y : ℕ) (ys : List ℕ) → x < y → IsAbove y ys → IsAbove x ys
+pub IsAbove-lower : (x y : ℕ) (ys : List ℕ) → x ≤ y → IsAbove y ys → IsAbove x ys
 IsAbove-lower x y [] less above = tt
 IsAbove-lower x y (z ∷ zs) less above = (omega (arith, above.0), IsAbove-lower x y zs less above.1)
 
@@ -69,7 +69,7 @@ pub record IsSought (part whole wanted rest : List ℕ) : Type 0 where
   pub rest_ascends : Ascends rest
   pub same : is_part part whole ≡ is_part wanted rest
 
-absent_from_above : (x : ℕ) (ys : List ℕ) → IsAbove x ys → has_literal ys x ≡ false
+pub absent_from_above : (x : ℕ) (ys : List ℕ) → IsAbove x ys → has_literal ys x ≡ false
 absent_from_above x [] above = refl
 absent_from_above x (y ∷ ys) above =
     let later : has_literal ys x ≡ false = absent_from_above x ys above.1 in
@@ -112,7 +112,7 @@ pub is_absent : {part whole : List ℕ} (x y i : ℕ) (wanted all : List ℕ) �
 is_absent x y i wanted all some e less f below h =
     let at = at_next y i (x ∷ drop 1 wanted) all less f (at_first x wanted (drop i all) some e h) in
     let gone : has_literal (y ∷ drop (i + 1) all) x ≡ false =
-    absent_from_above x (y ∷ drop (i + 1) all) (below, IsAbove-lower x y (drop (i + 1) all) below at.rest_ascends.0) in
+    absent_from_above x (y ∷ drop (i + 1) all) (below, IsAbove-lower x y (drop (i + 1) all) (omega arith) at.rest_ascends.0) in
     at.same ∙ ap (λ b. b && list_all (has_literal (y ∷ drop (i + 1) all)) (drop 1 wanted)) gone
 
 pub is_found : {part whole : List ℕ} (x y i : ℕ) (wanted all : List ℕ) → 1 ≤ length wanted → x ≡ get_or wanted 0 x
@@ -142,7 +142,7 @@ is_passed {part} {whole} x y i (w ∷ ws) all some e less f below h =
     record {
       wanted_ascends = at.wanted_ascends;
       rest_ascends = at.rest_ascends.1;
-      same = at.same ∙ is_part-passed y (w ∷ ws) (drop (i + 1) all) (low, IsAbove-lower y w ws low at.wanted_ascends.0);
+      same = at.same ∙ is_part-passed y (w ∷ ws) (drop (i + 1) all) (low, IsAbove-lower y w ws (omega arith) at.wanted_ascends.0);
     }
 
 -- at the end of the rest

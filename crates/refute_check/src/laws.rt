@@ -1,0 +1,13 @@
+//! What accepted lines mean, over plain data.
+
+ghost use Rattle.refute_check.specs.Laws.{AcceptedHolds, CoveredIsRefuted};
+
+pub fn accepted_lines_hold()
+    ensures { AcceptedHolds }
+{
+}
+
+pub fn what_is_covered_is_refuted()
+    ensures { CoveredIsRefuted }
+{
+}

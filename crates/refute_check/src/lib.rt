@@ -1,0 +1,17 @@
+//! The checker of refutations: each line of a log is accepted by unit propagation over the clauses before it, as
+//! `specs/Lines.antt` says; `specs/Refuted.antt` says what is shown by it.
+#![tactic(auto)]
+
+mod checker;
+mod covers;
+mod fit;
+mod found;
+mod judge;
+mod laws;
+mod lines;
+mod numbered;
+mod propagate;
+
+pub use checker::{Checker, LineRefused};
+pub use laws::{accepted_lines_hold, what_is_covered_is_refuted};
+pub use lines::{Hints, Line, Lines, Proofs, Refuted};
