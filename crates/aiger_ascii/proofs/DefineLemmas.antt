@@ -1,5 +1,5 @@
 -- The row of variables that are defined so far, against lists in which no variable comes twice.
-use Rattle.std.proofs.Common.{◌≡◌, ◌≢◌, ℕ, zero, suc, ◌+◌, ◌<◌, ◌≤◌, Bool, true, false, List, [], ◌∷◌, ◌++◌, length, get_or, set, replicate, refl, sym, ap, subst, ◌∙◌, ◌⊎◌, inl, inr, arith, get_or-set_other, get_or-set_same}
+use Rattle.std.proofs.Common.{◌≡◌, ◌≢◌, ℕ, zero, suc, ◌<◌, Bool, true, false, List, [], ◌∷◌, ◌++◌, length, set, refl, sym, ap, ◌∙◌, inl, inr, arith, get_or-set_other, get_or-set_same}
 use Rattle.std.specs.Prelude.{slice_index}
 use Rattle.std.specs.List.{AllByRecursion}
 use Rattle.std.proofs.lemmas.List.{length-set}
@@ -67,7 +67,9 @@ fresh_apart n seen (v ∷ vs) len fresh within (suc i) (suc j) lt le e =
 
 pub apart_fresh : (seen : List Bool) (vs : List ℕ) → ((k : ℕ) → k < length vs → bit seen (slice_index vs k) ≡ false) → ((i j : ℕ) → i < j → j < length vs → slice_index vs i ≡ slice_index vs j → ⊥) → AreFresh seen vs
 apart_fresh seen [] clear apart = tt
-apart_fresh seen (v ∷ vs) clear apart =
-    (clear 0 (omega arith), apart_fresh (set seen v true) vs
-        (λ k lt. let ne : slice_index vs k ≢ v = λ e. apart 0 (suc k) (omega arith) (omega arith) (sym e) in bit_other seen v (slice_index vs k) ne ∙ clear (suc k) (omega arith))
-        (λ i j lt le e. apart (suc i) (suc j) (omega arith) (omega arith) e))
+apart_fresh seen (v ∷ vs) clear apart = (
+  clear 0 (omega arith),
+  apart_fresh (set seen v true) vs
+      (λ k lt. let ne : slice_index vs k ≢ v = λ e. apart 0 (suc k) (omega arith) (omega arith) (sym e) in bit_other seen v (slice_index vs k) ne ∙ clear (suc k) (omega arith))
+      (λ i j lt le e. apart (suc i) (suc j) (omega arith) (omega arith) e),
+)

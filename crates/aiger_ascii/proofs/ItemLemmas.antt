@@ -1,5 +1,5 @@
 -- Lines that define are read as they are spelled, and what is spelled so is read so.
-use Rattle.std.proofs.Common.{◌≡◌, ℕ, zero, suc, ◌+◌, ◌*◌, ◌%◌, ◌<◌, ◌≤◌, Bool, true, false, cond, eqb, leb, List, [], ◌∷◌, ◌++◌, length, map, set, Result, Ok, Err, refl, sym, ap, subst, ◌∙◌, ◌⊎◌, inl, inr, append_assoc, arith}
+use Rattle.std.proofs.Common.{◌≡◌, ℕ, ◌*◌, ◌%◌, ◌≤◌, Bool, true, false, eqb, leb, List, [], ◌∷◌, ◌++◌, length, map, set, Result, Ok, refl, sym, ap, subst, ◌∙◌, ◌⊎◌, inl, inr, append_assoc, arith}
 use Rattle.std.specs.Prelude.{◌&&◌}
 use Rattle.std.specs.List.{AllByRecursion}
 use Rattle.std.proofs.lemmas.Bool.Decides.{nat_tests}
@@ -20,7 +20,7 @@ use Rattle.aiger_lines.specs.Lines.{AreLines, IsLiteralLine, IsUsed, TakesItem, 
 use Rattle.aiger_lines.specs.Reading.{place, numbers_at, one_number, used_at, reset_at}
 use Rattle.aiger_lines.proofs.SectionLemmas.{items_from_chain, numbers_take, numbers_again, one_takes, used_takes, used_again, reset_takes, reset_again}
 use Rattle.aiger_ascii.specs.Grammar.{IsLatchLine, IsGateLine}
-use Rattle.aiger_ascii.specs.Reading.{State, new_at, define_at, defining_at, input_from, input_at, latch_numbers, latch_from, latch_at, gate_numbers, gate_from, gate_at}
+use Rattle.aiger_ascii.specs.Reading.{State, new_at, define_at, defining_at, input_from, latch_numbers, latch_from, gate_numbers, gate_from}
 use Rattle.aiger_ascii.proofs.DefineLemmas.{marked, AreFresh}
 
 -- ---- any line that defines
@@ -80,14 +80,15 @@ module _ {X : Type 0} (item_from : ℕ → List ℕ → Result X ReadRefusal) (I
   section_chain : (seen : List Bool) (text : List ℕ) (xs : List X) (rest : List ℕ) → AreLines IsLine text xs → AllByRecursion InRange xs → AreFresh seen (map (λ x. variable (literal_of x)) xs)
       → Chain (Defines IsLine InRange literal_of) (record { seen = seen; rest = text ++ rest }) xs (record { seen = marked seen (map (λ x. variable (literal_of x)) xs); rest = rest })
   section_chain seen text [] rest lines range fresh = ap (λ (k : List ℕ). record { seen = seen; rest = k ++ rest }) lines
-  section_chain seen text (x ∷ xs) rest lines range fresh =
-      (record { seen = set seen (variable (literal_of x)) true; rest = lines.1 ++ rest },
-       record {
-         item = record { line = lines.0; parts = ap (λ (k : List ℕ). k ++ rest) lines.3 ∙ append_assoc lines.0 lines.1 rest; form = lines.2; range = range.0 };
-         fresh = fresh.0;
-         seen = refl;
-       },
-       section_chain (set seen (variable (literal_of x)) true) lines.1 xs rest lines.4 range.1 fresh.1)
+  section_chain seen text (x ∷ xs) rest lines range fresh = (
+    record { seen = set seen (variable (literal_of x)) true; rest = lines.1 ++ rest },
+    record {
+      item = record { line = lines.0; parts = ap (λ (k : List ℕ). k ++ rest) lines.3 ∙ append_assoc lines.0 lines.1 rest; form = lines.2; range = range.0 };
+      fresh = fresh.0;
+      seen = refl;
+    },
+    section_chain (set seen (variable (literal_of x)) true) lines.1 xs rest lines.4 range.1 fresh.1,
+  )
 
   pub section_again : IsForm item_from IsLine InRange → (seen : List Bool) (text : List ℕ) (xs : List X) (rest : List ℕ) → AreLines IsLine text xs → AllByRecursion InRange xs → AreFresh seen (map (λ x. variable (literal_of x)) xs)
       → repeated (defining_at item_from literal_of size) (length xs) (record { seen = seen; rest = text ++ rest }) ≡ Ok (xs, record { seen = marked seen (map (λ x. variable (literal_of x)) xs); rest = rest })

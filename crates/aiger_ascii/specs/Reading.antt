@@ -1,5 +1,5 @@
 -- The sections of a file, read from left to right: their lists, or the first fault that is met.
-use Rattle.std.specs.Prelude.{◌≡◌, ℕ, ◌+◌, ◌*◌, ◌%◌, ◌==◌, ◌&&◌, Bool, false, true, nat_le, if◌then◌else◌, List, [], ◌∷◌, length, replicate, slice_set, Result, Ok, Err}
+use Rattle.std.specs.Prelude.{ℕ, ◌+◌, ◌*◌, ◌%◌, ◌==◌, ◌&&◌, Bool, false, true, nat_le, if◌then◌else◌, List, [], ◌∷◌, length, replicate, slice_set, Result, Ok, Err}
 use Rattle.ja_base.specs.Literals.{bit, variable}
 use Rattle.ja_text.specs.Reading.{◌>>=◌}
 use Rattle.ja_text.specs.Repeated.{repeated}
@@ -92,15 +92,18 @@ sections_at size h rest = do
   bads ← repeated (literal_at h.vars size) h.bads outputs.1
   constraints ← repeated (literal_at h.vars size) h.constraints bads.1
   gates ← repeated (gate_at h.vars size) h.gates (record { seen = latches.1.seen; rest = constraints.1 })
-  Ok (record {
-    vars = h.vars;
-    inputs = inputs.0;
-    latches = latches.0;
-    bads = if h.bads == 0 then outputs.0 else bads.0;
-    constraints = constraints.0;
-    outputs = outputs.0;
-    gates = gates.0
-  }, gates.1.rest)
+  Ok (
+    record {
+      vars = h.vars;
+      inputs = inputs.0;
+      latches = latches.0;
+      bads = if h.bads == 0 then outputs.0 else bads.0;
+      constraints = constraints.0;
+      outputs = outputs.0;
+      gates = gates.0;
+    },
+    gates.1.rest,
+  )
 
 -- a file up to its gates: its sizes and lists, and what follows them
 pub record File : Type 0 where

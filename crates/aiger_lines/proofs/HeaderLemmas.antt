@@ -1,12 +1,12 @@
 -- A header is read as it is spelled, and what is spelled so is read so.
-use Rattle.std.proofs.Common.{◌≡◌, ℕ, ◌+◌, ◌<◌, ◌≤◌, Bool, true, false, not, cond, eqb, leb, ltb, List, [], ◌∷◌, ◌++◌, length, Option, Some, None, Result, Ok, Err, refl, sym, ap, subst, ◌∙◌, append_assoc, arith}
+use Rattle.std.proofs.Common.{◌≡◌, ℕ, ◌≤◌, Bool, true, false, not, cond, ltb, List, [], ◌∷◌, ◌++◌, length, Some, None, Result, Ok, Err, refl, sym, ap, subst, ◌∙◌, append_assoc, arith}
 use Rattle.std.specs.Prelude.{option_and_then, ok_or, ◌||◌}
 use Rattle.std.proofs.lemmas.Bool.{eqb-true}
 use Rattle.std.proofs.lemmas.Bool.Decides.{nat_tests}
 use Rattle.std.proofs.lemmas.Option.{option_and_then_some, same_Some}
 use Rattle.ja_text.specs.Forms.{BeginsWith}
 use Rattle.ja_text.specs.Lines.{byte_at, space_at}
-use Rattle.ja_text.specs.Rows.{IsRow, TakesRow, row_at}
+use Rattle.ja_text.specs.Rows.{TakesRow, row_at}
 use Rattle.ja_text.specs.Reading.{◌>>=◌}
 use Rattle.ja_text.proofs.LineLemmas.{byte_takes, byte_again}
 use Rattle.ja_text.proofs.RowLemmas.{row_takes, row_again}
@@ -65,8 +65,8 @@ unfolding header_line_at
 header_line_takes form bytes h rest e =
     option_and_then_some sizes_of (option_and_then (row_at 9) (option_and_then space_at (word_at (word_of form) bytes))) (h, rest) e
     (λ x row sizes. option_and_then_some (row_at 9) (option_and_then space_at (word_at (word_of form) bytes)) x row
-      (λ r space taken. option_and_then_some space_at (word_at (word_of form) bytes) r space
-        (λ after word next. line_of form bytes after r x h rest (word_takes (word_of form) bytes after word) (space_is after r next) (row_takes 9 r x taken) sizes)))
+    (λ r space taken. option_and_then_some space_at (word_at (word_of form) bytes) r space
+    (λ after word next. line_of form bytes after r x h rest (word_takes (word_of form) bytes after word) (space_is after r next) (row_takes 9 r x taken) sizes)))
 
 pub header_line_again : (form : Form) (text rest : List ℕ) (h : Header) → IsHeaderLine form text h → header_line_at (word_of form) (text ++ rest) ≡ Some (h, rest)
 unfolding header_line_at
@@ -119,16 +119,18 @@ sizes_take form h k e =
     let p4 = passes (ltb 20000 (property_count h)) (refusal.TooLarge large.Props) lines k p3.1 in
     let p5 = guard_ok many (refusal.TooLarge large.Lines) h k p4.1 in
     let none = neither_holds (ltb 0 h.justice) (ltb 0 h.fairness) p2.0 in
-    let few = neither_holds (ltb 500000 h.outputs) (ltb 500000 h.constraints) p5.0 in
-    (record {
-      vars = at_most h.vars 500000 p1.0;
-      justice = omega (arith, at_most h.justice 0 none.0);
-      fairness = omega (arith, at_most h.fairness 0 none.1);
-      sum = sum_takes form h (not_false (fits_sum form h) p3.0);
-      properties = at_most (property_count h) 20000 p4.0;
-      outputs = at_most h.outputs 500000 few.0;
-      constraints = at_most h.constraints 500000 few.1;
-    }, p5.1)
+    let few = neither_holds (ltb 500000 h.outputs) (ltb 500000 h.constraints) p5.0 in (
+      record {
+        vars = at_most h.vars 500000 p1.0;
+        justice = omega (arith, at_most h.justice 0 none.0);
+        fairness = omega (arith, at_most h.fairness 0 none.1);
+        sum = sum_takes form h (not_false (fits_sum form h) p3.0);
+        properties = at_most (property_count h) 20000 p4.0;
+        outputs = at_most h.outputs 500000 few.0;
+        constraints = at_most h.constraints 500000 few.1;
+      },
+      p5.1,
+    )
 
 pub sizes_again : (form : Form) (h : Header) → IsWithinLimits form h → taken_sizes form h ≡ Ok h
 unfolding taken_sizes

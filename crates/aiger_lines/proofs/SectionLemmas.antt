@@ -1,5 +1,5 @@
 -- Lines of numbers are read as they are spelled, and what is spelled so is read so.
-use Rattle.std.proofs.Common.{◌≡◌, ℕ, zero, suc, ◌+◌, ◌*◌, ◌<◌, ◌≤◌, Bool, true, false, cond, eqb, leb, List, [], ◌∷◌, ◌++◌, length, Result, Ok, Err, refl, sym, ap, subst, ◌∙◌, ◌⊎◌, inl, inr, append_assoc, arith}
+use Rattle.std.proofs.Common.{◌≡◌, ℕ, ◌+◌, ◌*◌, ◌≤◌, true, false, cond, eqb, leb, List, [], ◌∷◌, ◌++◌, length, Result, Ok, Err, refl, sym, ap, subst, ◌∙◌, inl, inr, append_assoc, arith}
 use Rattle.std.specs.List.{AllByRecursion}
 use Rattle.std.proofs.lemmas.Bool.{eqb-true}
 use Rattle.std.proofs.lemmas.Bool.Decides.{nat_tests}
@@ -109,11 +109,11 @@ reset_takes l at n r e =
     elim (chosen (eqb n 0) (Ok Zero) one (Ok r) e) [
       | inl z ↦ subst P (ok_is Zero r z.1) (eqb-true n 0 z.0)
       | inr z ↦ elim (chosen (eqb n 1) (Ok One) own (Ok r) z.1) [
-          | inl o ↦ subst P (ok_is One r o.1) (eqb-true n 1 o.0)
-          | inr o ↦
-              let f = guard_held (eqb n l) (refusal.Range at) Free r o.1 in
-              subst P f.1 (eqb-true n l f.0)
-        ]
+        | inl o ↦ subst P (ok_is One r o.1) (eqb-true n 1 o.0)
+        | inr o ↦
+            let f = guard_held (eqb n l) (refusal.Range at) Free r o.1 in
+            subst P f.1 (eqb-true n l f.0)
+      ]
     ]
 
 pub reset_again : (l at : ℕ) (r : Reset) → 2 ≤ l → reset_at l at (reset_number l r) ≡ Ok r

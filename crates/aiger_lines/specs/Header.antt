@@ -21,7 +21,7 @@ header_of ns = record {
   bads = slice_index ns 5;
   constraints = slice_index ns 6;
   justice = slice_index ns 7;
-  fairness = slice_index ns 8
+  fairness = slice_index ns 8;
 }
 
 -- the word of the form, then five to nine numbers, each after one space, then LF

@@ -11,8 +11,11 @@ use crate::sizes::Header;
 use ja_text::{row, space};
 
 const MOST_BYTES: usize = 67_108_864;
+
 const MOST_VARS: u64 = 500_000;
+
 const MOST_PROPERTIES: u64 = 20_000;
+
 const MOST_LINES: u64 = 500_000;
 
 fn byte(wanted: u8, bytes: &[u8]) -> Option<&[u8]>
@@ -87,8 +90,7 @@ fn properties(header: &Header) -> u64
 fn sum_fits(form: Form, header: &Header) -> bool
     ensures { result ≡ fits_sum form header.now }
 {
-    let sum =
-        u128::from(header.inputs) + u128::from(header.latches) + u128::from(header.gates);
+    let sum = u128::from(header.inputs) + u128::from(header.latches) + u128::from(header.gates);
     match form {
         Form::Ascii => sum <= u128::from(header.vars),
         Form::Binary => sum == u128::from(header.vars),
