@@ -1,18 +1,16 @@
 -- A file is read as it is spelled, and what is spelled so is read so.
-use Rattle.std.proofs.Common.{◌≡◌, ℕ, zero, suc, ◌+◌, ◌*◌, ◌/◌, ◌<◌, ◌≤◌, ◌^◌, Bool, true, false, cond, eqb, List, [], ◌∷◌, ◌++◌, length, map, replicate, Result, Ok, Err, refl, sym, ap, subst, ◌∙◌, inl, inr, append_assoc, arith}
-use Rattle.std.specs.Prelude.{slice_index, MatchResult}
+use Rattle.std.proofs.Common.{◌≡◌, ℕ, ◌+◌, ◌<◌, ◌≤◌, ◌^◌, Bool, true, false, cond, eqb, List, ◌++◌, length, map, replicate, Result, Ok, Err, refl, sym, ap, subst, ◌∙◌, append_assoc, arith}
 use Rattle.std.specs.List.{AllByRecursion}
-use Rattle.std.proofs.lemmas.Bool.{cases_lt}
-use Rattle.std.proofs.lemmas.List.{get_or-replicate, get_or_past, length-replicate}
-use Rattle.ja_base.specs.Literals.{bit, variable}
+use Rattle.std.proofs.lemmas.List.{length-replicate}
+use Rattle.ja_base.specs.Literals.{variable}
 use Rattle.ja_text.specs.Reading.{◌>>=◌}
 use Rattle.ja_text.specs.Repeated.{repeated}
-use Rattle.ja_text.proofs.ReadingLemmas.{bind_ok, ok_is}
+use Rattle.ja_text.proofs.ReadingLemmas.{ok_is}
 use Rattle.aig_model.specs.declared.netlist.Latch.{Latch}
 use Rattle.aig_model.specs.declared.netlist.AndGate.{AndGate}
 use Rattle.aig_model.specs.declared.netlist.Parts.{Parts}
 use Rattle.aig_model.specs.Netlist.{IsNew, gate_var, definitions}
-use Rattle.aig_model.specs.Refusals.{netlist_of, uses, AreInRange, IsDefinedTwice, AreOnce, MakesDesign}
+use Rattle.aig_model.specs.Refusals.{netlist_of, uses, AreInRange, AreOnce, MakesDesign}
 use Rattle.aiger_lines.specs.declared.form.Form.TheVariants.{Ascii}
 use Rattle.aiger_lines.specs.declared.sizes.Header.{Header}
 use Rattle.aiger_lines.specs.declared.refusal.ReadRefusal.{ReadRefusal}
@@ -20,13 +18,13 @@ use Rattle.aiger_lines.specs.Header.{IsWithinLimits}
 use Rattle.aiger_lines.specs.Lines.{IsLiteralLine, IsUsed, TakesItems}
 use Rattle.aiger_lines.specs.Tail.{IsTail}
 use Rattle.aiger_lines.specs.Reading.{literal_at, header_at}
-use Rattle.aiger_lines.proofs.ListLemmas.{all_join, all_front, all_back, all_at, all_from_at, all_weaker, all_with, all_mapped, all_unmapped}
+use Rattle.aiger_lines.proofs.ListLemmas.{all_join, all_at, all_weaker, all_mapped}
 use Rattle.aiger_lines.proofs.HeaderLemmas.{TakesHeader, header_takes}
 use Rattle.aiger_lines.proofs.SectionLemmas.{literals_take}
-use Rattle.aiger_ascii.specs.Grammar.{IsLatchLine, IsGateLine, Sections, text_of, Counts, AreSpelled, Spells}
+use Rattle.aiger_ascii.specs.Grammar.{IsLatchLine, IsGateLine, Counts, Spells}
 use Rattle.aiger_ascii.specs.Reading.{State, input_from, input_at, latch_from, latch_at, gate_from, gate_at, state_before, sections_at, File, file_at}
-use Rattle.aiger_ascii.proofs.DefineLemmas.{marked, AreFresh, fresh_join, fresh_front, fresh_back, marked-append, fresh_apart, apart_fresh}
-use Rattle.aiger_ascii.proofs.ItemLemmas.{section_takes, section_again, input_form, IsLatchInRange, latch_form, IsGateInRange, gate_form}
+use Rattle.aiger_ascii.proofs.DefineLemmas.{marked, AreFresh, fresh_join, marked-append, fresh_apart}
+use Rattle.aiger_ascii.proofs.ItemLemmas.{section_takes, input_form, IsLatchInRange, latch_form, IsGateInRange, gate_form}
 
 -- ---- what is read is spelled so
 

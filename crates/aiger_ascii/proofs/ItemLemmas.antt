@@ -1,5 +1,5 @@
 -- Lines that define are read as they are spelled, and what is spelled so is read so.
-use Rattle.std.proofs.Common.{◌≡◌, ℕ, zero, suc, ◌+◌, ◌*◌, ◌%◌, ◌<◌, ◌≤◌, Bool, true, false, cond, eqb, leb, List, [], ◌∷◌, ◌++◌, length, map, set, Result, Ok, Err, refl, sym, ap, subst, ◌∙◌, ◌⊎◌, inl, inr, append_assoc, arith}
+use Rattle.std.proofs.Common.{◌≡◌, ℕ, ◌*◌, ◌%◌, ◌≤◌, Bool, true, false, eqb, leb, List, [], ◌∷◌, ◌++◌, length, map, set, Result, Ok, refl, sym, ap, subst, ◌∙◌, ◌⊎◌, inl, inr, append_assoc, arith}
 use Rattle.std.specs.Prelude.{◌&&◌}
 use Rattle.std.specs.List.{AllByRecursion}
 use Rattle.std.proofs.lemmas.Bool.Decides.{nat_tests}
@@ -20,7 +20,7 @@ use Rattle.aiger_lines.specs.Lines.{AreLines, IsLiteralLine, IsUsed, TakesItem, 
 use Rattle.aiger_lines.specs.Reading.{place, numbers_at, one_number, used_at, reset_at}
 use Rattle.aiger_lines.proofs.SectionLemmas.{items_from_chain, numbers_take, numbers_again, one_takes, used_takes, used_again, reset_takes, reset_again}
 use Rattle.aiger_ascii.specs.Grammar.{IsLatchLine, IsGateLine}
-use Rattle.aiger_ascii.specs.Reading.{State, new_at, define_at, defining_at, input_from, input_at, latch_numbers, latch_from, latch_at, gate_numbers, gate_from, gate_at}
+use Rattle.aiger_ascii.specs.Reading.{State, new_at, define_at, defining_at, input_from, latch_numbers, latch_from, gate_numbers, gate_from}
 use Rattle.aiger_ascii.proofs.DefineLemmas.{marked, AreFresh}
 
 -- ---- any line that defines

@@ -1,13 +1,11 @@
 -- What is spelled is read so.
-use Rattle.std.proofs.Common.{◌≡◌, ℕ, zero, suc, ◌+◌, ◌<◌, ◌≤◌, Bool, true, false, cond, eqb, List, [], ◌∷◌, ◌++◌, length, map, replicate, Result, Ok, Err, refl, sym, ap, subst, ◌∙◌, inl, inr, append_assoc, arith}
+use Rattle.std.proofs.Common.{◌≡◌, ℕ, ◌+◌, ◌≤◌, Bool, true, false, cond, eqb, List, [], ◌∷◌, ◌++◌, length, map, replicate, Ok, refl, sym, ap, subst, ◌∙◌, inl, inr, append_assoc, arith}
 use Rattle.std.specs.Prelude.{slice_index}
 use Rattle.std.specs.List.{AllByRecursion}
 use Rattle.std.proofs.lemmas.Bool.{cases_lt}
 use Rattle.std.proofs.lemmas.Bool.Decides.{nat_tests}
 use Rattle.std.proofs.lemmas.List.{get_or-replicate, get_or_past, length-replicate}
 use Rattle.ja_base.specs.Literals.{bit, variable}
-use Rattle.ja_text.specs.Reading.{◌>>=◌}
-use Rattle.ja_text.specs.Repeated.{repeated}
 use Rattle.aig_model.specs.declared.netlist.Latch.{Latch}
 use Rattle.aig_model.specs.declared.netlist.AndGate.{AndGate}
 use Rattle.aig_model.specs.declared.netlist.Parts.{Parts}
@@ -16,12 +14,11 @@ use Rattle.aig_model.specs.Refusals.{netlist_of, uses, AreInRange, AreOnce}
 use Rattle.aiger_lines.specs.declared.form.Form.TheVariants.{Ascii}
 use Rattle.aiger_lines.specs.declared.sizes.Header.{Header}
 use Rattle.aiger_lines.specs.Lines.{IsLiteralLine, IsUsed}
-use Rattle.aiger_lines.specs.Reading.{literal_at, header_at}
 use Rattle.aiger_lines.proofs.ListLemmas.{all_front, all_back, all_from_at, all_with, all_unmapped}
 use Rattle.aiger_lines.proofs.HeaderLemmas.{header_again}
 use Rattle.aiger_lines.proofs.SectionLemmas.{literals_again}
 use Rattle.aiger_ascii.specs.Grammar.{IsLatchLine, IsGateLine, Sections, text_of, Counts, AreSpelled, Spells}
-use Rattle.aiger_ascii.specs.Reading.{State, input_from, input_at, latch_from, latch_at, gate_from, gate_at, state_before, sections_at, File, file_at}
+use Rattle.aiger_ascii.specs.Reading.{input_from, input_at, latch_from, latch_at, gate_from, gate_at, sections_at, File, file_at}
 use Rattle.aiger_ascii.proofs.DefineLemmas.{marked, AreFresh, fresh_front, fresh_back, marked-append, apart_fresh}
 use Rattle.aiger_ascii.proofs.ItemLemmas.{section_again, input_form, IsLatchInRange, latch_form, IsGateInRange, gate_form}
 

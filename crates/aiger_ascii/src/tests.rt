@@ -4,6 +4,14 @@ use aiger_lines::{Large, ReadRefusal};
 use ja_base::{OrMemory, Var};
 use std::test::Fail;
 
+const NO_HEADER: ReadRefusal = ReadRefusal::Header { at: 0 };
+
+const MANY_PROPERTIES: ReadRefusal = ReadRefusal::TooLarge { what: Large::Props };
+
+const MANY_LINES: ReadRefusal = ReadRefusal::TooLarge { what: Large::Lines };
+
+const LARGE_FILE: ReadRefusal = ReadRefusal::TooLarge { what: Large::File };
+
 #[test]
 fn each_refusal(rt: HostRuntime) {
     let table: [(&[u8], ReadRefusal); 10] = [
@@ -35,25 +43,22 @@ fn each_refusal(rt: HostRuntime) {
 
 #[test]
 fn headers(rt: HostRuntime) {
-    let header = ReadRefusal::Header { at: 0 };
-    let properties = ReadRefusal::TooLarge { what: Large::Props };
-    let lines = ReadRefusal::TooLarge { what: Large::Lines };
     let table: [(&[u8], ReadRefusal); 20] = [
-        (b"aag 0 0 0 0 0", header),
-        (b"aag 0 0 0 0\n", header),
-        (b"aag 0 0 0 0 0 0 0 0 0 0\n", header),
-        (b"aag 0 0 0 0 0 \n", header),
-        (b"aag 0  0 0 0 0\n", header),
-        (b"aag 0 0 0 0 0\r\n", header),
-        (b" aag 0 0 0 0 0\n", header),
-        (b"aag\n0 0 0 0 0\n", header),
-        (b"aig 0 0 0 0 0\n", header),
-        (b"aag 1 1 0 0 1\n", header),
+        (b"aag 0 0 0 0 0", NO_HEADER),
+        (b"aag 0 0 0 0\n", NO_HEADER),
+        (b"aag 0 0 0 0 0 0 0 0 0 0\n", NO_HEADER),
+        (b"aag 0 0 0 0 0 \n", NO_HEADER),
+        (b"aag 0  0 0 0 0\n", NO_HEADER),
+        (b"aag 0 0 0 0 0\r\n", NO_HEADER),
+        (b" aag 0 0 0 0 0\n", NO_HEADER),
+        (b"aag\n0 0 0 0 0\n", NO_HEADER),
+        (b"aig 0 0 0 0 0\n", NO_HEADER),
+        (b"aag 1 1 0 0 1\n", NO_HEADER),
         (
             b"aag 0 18446744073709551615 18446744073709551615 0 0\n",
-            header,
+            NO_HEADER,
         ),
-        (b"aag 1 2 0 0 0 20001\n", header),
+        (b"aag 1 2 0 0 0 20001\n", NO_HEADER),
         (b"aag 1 2 0 0 0 0 0 0 1\n", ReadRefusal::Liveness),
         (
             b"aag 0 0 0 0 0 0 0 18446744073709551616\n",
@@ -63,11 +68,11 @@ fn headers(rt: HostRuntime) {
             b"aag 500001 0 0 0 0 0 0 1\n",
             ReadRefusal::TooLarge { what: Large::Vars },
         ),
-        (b"aag 0 0 0 20001 0\n", properties),
-        (b"aag 0 0 0 500001 0\n", properties),
-        (b"aag 0 0 0 500001 0 20001\n", properties),
-        (b"aag 0 0 0 500001 0 1\n", lines),
-        (b"aag 0 0 0 0 0 0 500001\n", lines),
+        (b"aag 0 0 0 20001 0\n", MANY_PROPERTIES),
+        (b"aag 0 0 0 500001 0\n", MANY_PROPERTIES),
+        (b"aag 0 0 0 500001 0 20001\n", MANY_PROPERTIES),
+        (b"aag 0 0 0 500001 0 1\n", MANY_LINES),
+        (b"aag 0 0 0 0 0 0 500001\n", MANY_LINES),
     ];
     for (bytes, want) in table {
         let refused = read_ascii(rt.alloc(), bytes).err();
@@ -227,12 +232,10 @@ fn a_design_as_it_is_written(rt: HostRuntime) -> Result<(), Fail> {
 
 #[test]
 fn large_files(rt: HostRuntime) -> Result<(), Fail> {
-    let bytes = vec![in rt.alloc(); 0u8; 67_108_865]?;
-    let large = ReadRefusal::TooLarge { what: Large::File };
-    let refused = read_ascii(rt.alloc(), bytes.as_slice()).err();
-    assert_eq!(rt; refused, Some(OrMemory::Refused(large)));
-    let header = ReadRefusal::Header { at: 0 };
-    let refused = read_ascii(rt.alloc(), &bytes[..67_108_864]).err();
-    assert_eq!(rt; refused, Some(OrMemory::Refused(header)));
+    for (len, want) in [(67_108_865, LARGE_FILE), (67_108_864, NO_HEADER)] {
+        let bytes = vec![in rt.alloc(); 0u8; len]?;
+        let refused = read_ascii(rt.alloc(), bytes.as_slice()).err();
+        assert_eq!(rt; refused, Some(OrMemory::Refused(want)), "at {len}");
+    }
     Ok(())
 }

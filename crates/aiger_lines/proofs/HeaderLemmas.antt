@@ -1,12 +1,12 @@
 -- A header is read as it is spelled, and what is spelled so is read so.
-use Rattle.std.proofs.Common.{◌≡◌, ℕ, ◌+◌, ◌<◌, ◌≤◌, Bool, true, false, not, cond, eqb, leb, ltb, List, [], ◌∷◌, ◌++◌, length, Option, Some, None, Result, Ok, Err, refl, sym, ap, subst, ◌∙◌, append_assoc, arith}
+use Rattle.std.proofs.Common.{◌≡◌, ℕ, ◌≤◌, Bool, true, false, not, cond, ltb, List, [], ◌∷◌, ◌++◌, length, Some, None, Result, Ok, Err, refl, sym, ap, subst, ◌∙◌, append_assoc, arith}
 use Rattle.std.specs.Prelude.{option_and_then, ok_or, ◌||◌}
 use Rattle.std.proofs.lemmas.Bool.{eqb-true}
 use Rattle.std.proofs.lemmas.Bool.Decides.{nat_tests}
 use Rattle.std.proofs.lemmas.Option.{option_and_then_some, same_Some}
 use Rattle.ja_text.specs.Forms.{BeginsWith}
 use Rattle.ja_text.specs.Lines.{byte_at, space_at}
-use Rattle.ja_text.specs.Rows.{IsRow, TakesRow, row_at}
+use Rattle.ja_text.specs.Rows.{TakesRow, row_at}
 use Rattle.ja_text.specs.Reading.{◌>>=◌}
 use Rattle.ja_text.proofs.ByteLemmas.{byte_takes, byte_again}
 use Rattle.ja_text.proofs.RowLemmas.{row_takes, row_again}

@@ -1,13 +1,13 @@
 -- Symbol lines, and lines that are passed over.
-use Rattle.std.proofs.Common.{◌≡◌, ◌≢◌, ℕ, ◌<◌, Bool, true, false, cond, ltb, List, [], ◌∷◌, ◌++◌, length, Option, Some, None, refl, sym, ap, subst, ◌∙◌, ◌⊎◌, inl, inr, append_assoc, arith}
+use Rattle.std.proofs.Common.{◌≡◌, ◌≢◌, ℕ, ◌<◌, Bool, true, false, ltb, List, [], ◌∷◌, ◌++◌, length, Option, Some, None, refl, sym, ap, subst, ◌∙◌, ◌⊎◌, inl, inr, append_assoc, arith}
 use Rattle.std.specs.Prelude.{◌&&◌, is_some}
 use Rattle.std.specs.Option.{option_map_or}
 use Rattle.std.specs.List.{flat_map, AllByRecursion}
 use Rattle.std.proofs.lemmas.Bool.Decides.{nat_tests}
 use Rattle.std.proofs.lemmas.List.Concat.{flat_map-cons}
 use Rattle.std.proofs.lemmas.List.{flat_map_more}
-use Rattle.ja_text.specs.Numbers.{IsDigit, IsNumber, BeginsWithoutDigit, TakesNumber, number_at}
-use Rattle.ja_text.specs.Lines.{IsOneLine, TakesLine, space_at, line_at}
+use Rattle.ja_text.specs.Numbers.{IsDigit, IsNumber, BeginsWithoutDigit, number_at}
+use Rattle.ja_text.specs.Lines.{IsOneLine, space_at, line_at}
 use Rattle.ja_text.proofs.NumberLemmas.{digit_true, number_takes, number_again}
 use Rattle.ja_text.proofs.ByteLemmas.{byte_takes, byte_again}
 use Rattle.ja_text.proofs.LineLemmas.{line_takes, line_again, line_missing, line_one}

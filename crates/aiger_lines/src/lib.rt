@@ -18,3 +18,6 @@ pub use lines::{literal, literals, numbers, one_number, place, reset, used_liter
 pub use refusal::{Large, ReadRefusal};
 pub use sizes::Header;
 pub use tail::bad_line;
+
+#[cfg(test)]
+mod tests;

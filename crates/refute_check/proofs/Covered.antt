@@ -89,7 +89,7 @@ lines_follow vars clauses (line ∷ lines) h v all =
     let c : List ℕ = line.clause in
     let P : List (List ℕ) → Type 0 = AllSatisfiedBy (value v) in
     let here : AllSatisfiedBy (value v) (clauses ++ c ∷ []) =
-        All-push (SatisfiedBy (value v)) clauses c all (accepted_follows vars clauses c line.hints h.0 v all) in
+    All-push (SatisfiedBy (value v)) clauses c all (accepted_follows vars clauses c line.hints h.0 v all) in
     subst P (append_assoc clauses (c ∷ []) (map (λ k. k.clause) lines))
     (lines_follow vars (clauses ++ c ∷ []) lines h.1 v here)
 

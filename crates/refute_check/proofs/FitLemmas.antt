@@ -34,7 +34,7 @@ comes_next l [] above up = refl
 comes_next l (y ∷ ys) above up =
     let near : negated l ≤ y = grind (arith, nat_tests, above.0) in
     let gone : has_literal ys (negated l) ≡ false =
-        absent_from_above (negated l) ys (IsAbove-lower (negated l) y ys near up.0) in
+    absent_from_above (negated l) ys (IsAbove-lower (negated l) y ys near up.0) in
     ap (λ b. (y == negated l) || b) gone ∙ or_false (y == negated l)
   where
     or_false : (b : Bool) → (b || false) ≡ b
@@ -75,11 +75,11 @@ fit_step vars l ls up =
 -- the literal at a place, and what it leaves to ask of the later ones
 pub fit_at : (vars i x : ℕ) (lits : List ℕ) → i < length lits → x ≡ get_or lits i x → Ascends (drop i lits)
     → Ascends (drop (i + 1) lits)
-        × (is_fit vars (drop i lits)
-            ≡ ((nat_lt (variable x) vars && not (first_is (negated x) (drop (i + 1) lits))) && is_fit vars (drop (i + 1) lits)))
+    × (is_fit vars (drop i lits)
+    ≡ ((nat_lt (variable x) vars && not (first_is (negated x) (drop (i + 1) lits))) && is_fit vars (drop (i + 1) lits)))
 fit_at vars i x lits less e up =
     let whole : drop i lits ≡ x ∷ drop (i + 1) lits =
-        drop-cons lits i x less ∙ ap (λ v. v ∷ drop (suc i) lits) (sym e) ∙ ap (λ n. x ∷ drop n lits) (sym (add-one i)) in
+    drop-cons lits i x less ∙ ap (λ v. v ∷ drop (suc i) lits) (sym e) ∙ ap (λ n. x ∷ drop n lits) (sym (add-one i)) in
     let P : List ℕ → Type 0 = Ascends in
     let here : Ascends (x ∷ drop (i + 1) lits) = subst P whole up in
     (here.1, ap (is_fit vars) whole ∙ fit_step vars x (drop (i + 1) lits) here)

@@ -18,7 +18,7 @@ pub clauses_at_more : (xs ys : List (List ℕ)) (places : List ℕ) → All (λ 
 clauses_at_more xs ys [] h = refl
 clauses_at_more xs ys (k ∷ ks) h =
     let here : get_or (xs ++ ys) k [] ≡ get_or xs k [] =
-        get_or_append_left xs ys [] k (All-head (λ n. n < length xs) k ks h) in
+    get_or_append_left xs ys [] k (All-head (λ n. n < length xs) k ks h) in
     ap (λ c. c ∷ clauses_at (xs ++ ys) ks) here
     ∙ ap (λ cs. get_or xs k [] ∷ cs) (clauses_at_more xs ys ks (All-tail (λ n. n < length xs) k ks h))
 
@@ -27,7 +27,7 @@ pub clauses_at_take : (xs : List (List ℕ)) (n : ℕ) (places : List ℕ) → n
 clauses_at_take xs n places fits h =
     let width : length (take n xs) ≡ n = omega (arith, length-take n xs) in
     let below : All (λ k. k < length (take n xs)) places =
-        All-weaker (λ k. k < n) (λ k. k < length (take n xs)) (λ k less. omega arith) places h in
+    All-weaker (λ k. k < n) (λ k. k < length (take n xs)) (λ k less. omega arith) places h in
     sym (clauses_at_more (take n xs) (drop n xs) places below)
     ∙ ap (λ v. clauses_at v places) (take-append-drop n xs)
 
@@ -69,14 +69,15 @@ kept_by_line vars before after clause hints e accepted h =
     subst P (sym e) (record {
       below = All-push (IsBelow vars) before.list clause h.below (accepted_below vars before.list clause hints accepted);
       follow = λ v all.
-        All-push (SatisfiedBy (value v)) before.list clause (h.follow v all)
-        (accepted_follows vars before.list clause hints accepted v (h.follow v all));
+          All-push (SatisfiedBy (value v)) before.list clause (h.follow v all)
+          (accepted_follows vars before.list clause hints accepted v (h.follow v all));
     })
 
 pub kept_by_cut : (vars : ℕ) (before after : Numbering)
     → after ≡ record before {
-        list = take before.kept before.list; spare = before.spare + (length before.list - before.kept)
-      }
+      list = take before.kept before.list;
+      spare = before.spare + (length before.list - before.kept);
+    }
     → IsKept vars before → IsKept vars after
 kept_by_cut vars before after e h =
     let P : Numbering → Type 0 = IsKept vars in
@@ -102,7 +103,7 @@ kept_by_add vars before after clause adds small h = record {
       (All-push (IsBelow vars) before.list clause h.below small);
   follow = λ v all.
       let both : AllSatisfiedBy (value v) (before.added ++ clause ∷ []) =
-          All-same (SatisfiedBy (value v)) (before.added ++ clause ∷ []) after.added (sym adds.added) all in
+      All-same (SatisfiedBy (value v)) (before.added ++ clause ∷ []) after.added (sym adds.added) all in
       All-same (SatisfiedBy (value v)) after.list (before.list ++ clause ∷ []) adds.list
       (All-push (SatisfiedBy (value v)) before.list clause
       (h.follow v (All-front (SatisfiedBy (value v)) before.added (clause ∷ []) both))
@@ -119,5 +120,5 @@ kept_by_try (Err e) vars before after clause ok err small h =
 
 pub same_numbering : (l m ad ae : List (List ℕ)) (s t k n : ℕ) → l ≡ m → s ≡ t → ad ≡ ae → k ≡ n
     → let a : Numbering = record { list = l; spare = s; added = ad; kept = k } in
-      let b : Numbering = record { list = m; spare = t; added = ae; kept = n } in a ≡ b
+    let b : Numbering = record { list = m; spare = t; added = ae; kept = n } in a ≡ b
 same_numbering l m ad ae s t k n e f g h = cc

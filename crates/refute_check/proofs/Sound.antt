@@ -19,10 +19,10 @@ pub record Agrees (v row : List Bool) : Type 0 where
 Agrees-set : (v row : List Bool) (l : ℕ) → value v l ≡ true → Agrees v row → Agrees v (set row l true)
 Agrees-set v row l one h = record {
   at = λ m e.
-    elim (eqb_tells m l) [
-      inl same ↦ let P : ℕ → Type 0 = λ k. value v k ≡ true in subst P (sym same.1) one
-    | inr other ↦ h.at m (sym (get_or-set_other row l m true false other.1) ∙ e)
-    ];
+      elim (eqb_tells m l) [
+        | inl same ↦ let P : ℕ → Type 0 = λ k. value v k ≡ true in subst P (sym same.1) one
+        | inr other ↦ h.at m (sym (get_or-set_other row l m true false other.1) ∙ e)
+      ];
 }
 
 -- what is found under a row that agrees with v, in a clause that holds under v
@@ -41,9 +41,11 @@ open_holds v row (l ∷ ls) h one = go (bit row (negated l)) refl (open_holds v 
         → (b || list_any (value v) ls) ≡ true → (b || list_any (value v) (open_lits row ls)) ≡ true
     pick true later e = refl
     pick false later e = later e
+
     drop_false : (b : Bool) → not b ≡ true → (b || list_any (value v) ls) ≡ true → list_any (value v) ls ≡ true
     drop_false true wrong e = cc
     drop_false false wrong e = e
+
     go : (b : Bool) → bit row (negated l) ≡ b
         → (list_any (value v) ls ≡ true → list_any (value v) (open_lits row ls) ≡ true)
         → list_any (value v) (cond (not b) (l ∷ open_lits row ls) (open_lits row ls)) ≡ true
@@ -68,7 +70,7 @@ found_at_means v row clauses h agrees all = go (slice_get clauses h) refl
     go (Some c) e =
         let P : List ℕ → Type 0 = SatisfiedBy (value v) in
         let here : SatisfiedBy (value v) c =
-            subst P (get_or_from_slice_get clauses h c [] e) (all h [] (slice_get_within clauses h c e)) in
+        subst P (get_or_from_slice_get clauses h c [] e) (all h [] (slice_get_within clauses h c e)) in
         found_means v row (open_lits row c) (open_holds v row c agrees here)
 
 -- no clause becomes false under a row that agrees with v, where all hold under v
@@ -109,6 +111,7 @@ accepted_follows vars clauses clause hints e v all = go (list_any (value v) clau
         outcome_sound v clauses hints (assumed clause (unknown vars)) 0
         (assumed_agrees v clause (unknown vars) (unknown_agrees v (2 * vars)) wrong) all e
     judge false e wrong = cc
+
     go : (b : Bool) → list_any (value v) clause ≡ b → list_any (value v) clause ≡ true
     go true e' = e'
     go false e' = absurd (judge (is_fit vars clause) e e')

@@ -74,8 +74,8 @@ assumed_within : (lits : List ℕ) (row : List Bool) (i : ℕ) → bit (assumed 
 assumed_within [] row i e = inr e
 assumed_within (l ∷ ls) row i e =
     elim (assumed_within ls (set row (negated l) true) i e) [
-      inl h ↦ inl (inr h)
-    | inr f ↦ elim (made_true row (negated l) i f) [ inl q ↦ inl (inl q) | inr g ↦ inr g ]
+      | inl h ↦ inl (inr h)
+      | inr f ↦ elim (made_true row (negated l) i f) [ inl q ↦ inl (inl q) | inr g ↦ inr g ]
     ]
 
 -- a literal that is forced stands in the clause
@@ -117,18 +117,19 @@ outcome_within clauses (h ∷ hints) row at i e =
         → bit (judged False row at hints next).0 i ≡ true → bit row i ≡ true
     last [] next e = e
     last (k ∷ ks) next e = e
+
     go : (f : Found) → ForcedIn f (λ i. InAt i (slice_get clauses h))
         → ((next : List Bool) → bit (outcome clauses hints next (at + 1)).0 i ≡ true
-            → InHinted clauses hints i ⊎ (bit next i ≡ true))
+        → InHinted clauses hints i ⊎ (bit next i ≡ true))
         → bit (judged f row at hints (λ next. outcome clauses hints next (at + 1))).0 i ≡ true
         → (InAt i (slice_get clauses h) ⊎ InHinted clauses hints i) ⊎ (bit row i ≡ true)
     go False p later e = inr (last hints (λ next. outcome clauses hints next (at + 1)) e)
     go (Forces l) p later e =
         elim (later (set row l true) e) [
-          inl g ↦ inl (inr g)
-        | inr f ↦ elim (made_true row l i f) [
-            inl q ↦ let P : ℕ → Type 0 = λ k. InAt k (slice_get clauses h) in inl (inl (subst P (sym q) p))
-          | inr g ↦ inr g
+          | inl g ↦ inl (inr g)
+          | inr f ↦ elim (made_true row l i f) [
+            | inl q ↦ let P : ℕ → Type 0 = λ k. InAt k (slice_get clauses h) in inl (inl (subst P (sym q) p))
+            | inr g ↦ inr g
           ]
         ]
     go Other p later e = inr e
@@ -175,11 +176,11 @@ undone vars clauses clause hints last is width =
         let r = withdrawn_keeps clause (released clauses hints last) i e in
         let k = released_keeps clauses hints last i r.1 in
         let there : bit (outcome clauses hints (assumed clause (unknown vars)) 0).0 i ≡ true =
-            ap (λ v. bit v i) (sym is) ∙ k.1 in
+        ap (λ v. bit v i) (sym is) ∙ k.1 in
         elim (outcome_within clauses hints (assumed clause (unknown vars)) 0 i there) [
-          inl h ↦ k.0 h
-        | inr f ↦ elim (assumed_within clause (unknown vars) i f) [
-            inl h ↦ r.0 h
-          | inr g ↦ let no : bit (unknown vars) i ≡ false = bit_unknown (2 * vars) i in cc
+          | inl h ↦ k.0 h
+          | inr f ↦ elim (assumed_within clause (unknown vars) i f) [
+            | inl h ↦ r.0 h
+            | inr g ↦ let no : bit (unknown vars) i ≡ false = bit_unknown (2 * vars) i in cc
           ]
         ]

@@ -32,11 +32,11 @@ impl Model for Checker {
     ghost Value = { Checked };
 
     ghost view = { λ a. record {
-        vars = a.vars;
-        list = a.clauses.list;
-        spare = a.clauses.spare;
-        added = a.clauses.added;
-        kept = a.clauses.kept
+      vars = a.vars;
+      list = a.clauses.list;
+      spare = a.clauses.spare;
+      added = a.clauses.added;
+      kept = a.clauses.kept;
     } };
 
     ghost invariant = { λ a. (a.values.items ≡ unknown a.vars) × All (IsBelow a.vars) a.clauses.list

@@ -4,10 +4,8 @@ ghost use Rattle.refute_check.specs.Laws.{AcceptedHolds, CoveredIsRefuted};
 
 pub fn accepted_lines_hold()
     ensures { AcceptedHolds }
-{
-}
+{}
 
 pub fn what_is_covered_is_refuted()
     ensures { CoveredIsRefuted }
-{
-}
+{}

@@ -23,10 +23,10 @@ impl Model for Numbered {
     ghost Value = { Numbering };
 
     ghost view = { λ a. record {
-        list = a.clauses.items;
-        spare = min (vec_capacity a.clauses) 4294967295 - length a.clauses.items;
-        added = clauses_at a.clauses.items a.added.items;
-        kept = a.kept
+      list = a.clauses.items;
+      spare = min (vec_capacity a.clauses) 4294967295 - length a.clauses.items;
+      added = clauses_at a.clauses.items a.added.items;
+      kept = a.kept;
     } };
 
     ghost invariant = { λ a. (length a.clauses.items < 2 ^ 32) × (a.kept ≤ length a.clauses.items)
@@ -105,8 +105,8 @@ impl Numbered {
     /// Drops the lines that came after the last added clause.
     pub(crate) fn keep(&mut self)
         ensures { self.new ≡ record self.old {
-            list = take self.old.kept self.old.list;
-            spare = self.old.spare + (length self.old.list - self.old.kept)
+          list = take self.old.kept self.old.list;
+          spare = self.old.spare + (length self.old.list - self.old.kept);
         } }
     {
         self.clauses.truncate(self.kept);

@@ -1,4 +1,4 @@
-use Rattle.std.proofs.Common.{arith, sym, ◌∙◌}
+use Rattle.std.proofs.Common.{arith}
 use Rattle.std.proofs.lemmas.Bool.Decides.{nat_tests}
 use Rattle.aiger_lines.proofs.TailLemmas.{passed_over_is}
 use Rattle.aiger_lines.proofs.tail.is_passed_over.Goals as goal

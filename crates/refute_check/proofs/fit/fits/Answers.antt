@@ -18,11 +18,11 @@ loop-at-preserved c =
     let vars : ℕ = c.args.vars in
     let step = fit_at vars c.loop-at.at lit lits within c.index-lits-at.is c.loop-at.invariant.0 in
     let fits : (nat_lt (variable lit) vars && not (first_is (negated lit) (drop (c.loop-at.at + 1) lits))) ≡ true =
-        let later : take (length lits - (c.loop-at.at + 1)) (drop (c.loop-at.at + 1) lits) ≡ drop (c.loop-at.at + 1) lits =
-            ap (λ n. take n (drop (c.loop-at.at + 1) lits)) (sym (length-drop (c.loop-at.at + 1) lits))
-            ∙ take-length (drop (c.loop-at.at + 1) lits) in
-        ap (λ v. nat_lt (variable lit) vars && not (first_is (negated lit) v)) (sym later)
-        ∙ sym c.fits_before.ensures ∙ c.if-not-fits_before.false in
+    let later : take (length lits - (c.loop-at.at + 1)) (drop (c.loop-at.at + 1) lits) ≡ drop (c.loop-at.at + 1) lits =
+    ap (λ n. take n (drop (c.loop-at.at + 1) lits)) (sym (length-drop (c.loop-at.at + 1) lits))
+    ∙ take-length (drop (c.loop-at.at + 1) lits) in
+    ap (λ v. nat_lt (variable lit) vars && not (first_is (negated lit) v)) (sym later)
+    ∙ sym c.fits_before.ensures ∙ c.if-not-fits_before.false in
     let same : is_fit vars (drop c.loop-at.at lits) ≡ is_fit vars (drop (c.loop-at.at + 1) lits) =
-        step.1 ∙ ap (λ b. b && is_fit vars (drop (c.loop-at.at + 1) lits)) fits in
+    step.1 ∙ ap (λ b. b && is_fit vars (drop (c.loop-at.at + 1) lits)) fits in
     (step.0, c.loop-at.invariant.1 ∙ same)

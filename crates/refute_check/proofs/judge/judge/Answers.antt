@@ -12,11 +12,11 @@ returns-clause-same c =
     let hints : List ℕ = c.args.line.now.hints in
     let last : List Bool = c.follow-refused.new.values in
     let start : c.assume.new.values ≡ assumed clause (unknown vars) =
-        c.assume.ensures ∙ ap (λ v. assumed v c.args.values.now) c.lits-lits.ensures.value
-        ∙ ap (assumed clause) c.requires.values in
+    c.assume.ensures ∙ ap (λ v. assumed v c.args.values.now) c.lits-lits.ensures.value
+    ∙ ap (assumed clause) c.requires.values in
     let is : last ≡ (outcome list hints (assumed clause (unknown vars)) 0).0 =
-        c.follow-refused.ensures.row ∙ ap (λ v. (outcome list v c.assume.new.values 0).0) c.as_slice-hints.ensures.value
-        ∙ ap (λ v. (outcome list hints v 0).0) start in
+    c.follow-refused.ensures.row ∙ ap (λ v. (outcome list v c.assume.new.values 0).0) c.as_slice-hints.ensures.value
+    ∙ ap (λ v. (outcome list hints v 0).0) start in
     let all : length c.args.values.now ≡ 2 * vars = ap length c.requires.values ∙ length-replicate (2 * vars) false in
     let width : length last ≡ 2 * vars = omega arith in
     c.withdraw.ensures ∙ ap (λ v. withdrawn v c.release.new.values) c.lits-lits.ensures.value

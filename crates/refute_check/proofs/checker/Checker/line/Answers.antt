@@ -16,10 +16,10 @@ invariant_of-self-in-None-1 c =
     let list : Numbering = c.self.inside.clauses in
     let before : IsKept vars list = record { below = c.self.invariant.1; follow = c.self.invariant.2 } in
     let accepted : refusal vars list.list c.args.line.clause c.args.line.hints ≡ None =
-        sym c.judge.ensures.value ∙ c.in-None.is in
+    sym c.judge.ensures.value ∙ c.in-None.is in
     let after = kept_by_line vars list c.put.new.self c.args.line.clause c.args.line.hints c.put.ensures accepted before in
     let whole = take_at c.judge.new.values (drop (length c.judge.new.values) c.self.inside.values.items)
-        c.self.inside.values.len (ap length c.judge.ensures.same ∙ c.deref_mut.ensures.len) in
+    c.self.inside.values.len (ap length c.judge.ensures.same ∙ c.deref_mut.ensures.len) in
     (whole ∙ c.judge.ensures.same ∙ c.deref_mut.ensures.value ∙ c.self.invariant.0, after.below, after.follow)
 
 pub returns-in-None-clause-follows : goal.returns-in-None-clause-follows
@@ -27,7 +27,7 @@ returns-in-None-clause-follows c =
     let vars : ℕ = c.self.inside.vars in
     let list : Numbering = c.self.inside.clauses in
     let accepted : refusal vars list.list c.args.line.clause c.args.line.hints ≡ None =
-        sym c.judge.ensures.value ∙ c.in-None.is in
+    sym c.judge.ensures.value ∙ c.in-None.is in
     let P : Checked → Type 0 = λ k. FollowsOne k.added c.args.line.clause in
     subst P c.self.view_is
     (λ v all. accepted_follows vars list.list c.args.line.clause c.args.line.hints accepted v (c.self.invariant.2 v all))

@@ -14,18 +14,18 @@ returns-clause-ok c =
     let clause : List ℕ = c.args.clause in
     let list : items ≡ old.list = ap (λ (r : Numbering). r.list) c.self.view_is in
     let spare : min (vec_capacity c.self.inside.clauses) 4294967295 - length items ≡ old.spare =
-        ap (λ (r : Numbering). r.spare) c.self.view_is in
+    ap (λ (r : Numbering). r.spare) c.self.view_is in
     let added : clauses_at items places ≡ old.added = ap (λ (r : Numbering). r.added) c.self.view_is in
     let news : List (List ℕ) = c.push_reserved.new.self.items in
     let more : news ≡ items ++ clause ∷ [] = cc in
     let spots : c.push_reserved-2.new.self.items ≡ places ++ length items ∷ [] =
-        let number : c.len-number.result ≡ length items = c.len-number.ensures ∙ ap length (sym list) in
-        let was : c.reserve.new.self.items ≡ places = c.reserve.ensures.items in
-        c.push_reserved-2.ensures.items ∙ ap (λ v. v ++ c.len-number.result ∷ []) was ∙ ap (λ n. places ++ n ∷ []) number in
+    let number : c.len-number.result ≡ length items = c.len-number.ensures ∙ ap length (sym list) in
+    let was : c.reserve.new.self.items ≡ places = c.reserve.ensures.items in
+    c.push_reserved-2.ensures.items ∙ ap (λ v. v ++ c.len-number.result ∷ []) was ∙ ap (λ n. places ++ n ∷ []) number in
     let one : length news ≡ length items + 1 = ap length more ∙ length-append items (clause ∷ []) in
     let within : All (λ k. k < length items) places =
-        All-weaker (λ k. k < c.self.inside.kept) (λ k. k < length items) (λ k less. omega arith) places
-        c.self.invariant.2 in
+    All-weaker (λ k. k < c.self.inside.kept) (λ k. k < length items) (λ k less. omega arith) places
+    c.self.invariant.2 in
     record {
       list = more ∙ ap (λ v. v ++ clause ∷ []) list;
       added =

@@ -14,7 +14,7 @@ returns c =
     let n : ℕ = c.self.inside.kept in
     let list : items ≡ old.list = ap (λ (r : Numbering). r.list) c.self.view_is in
     let spare : min (vec_capacity c.self.inside.clauses) 4294967295 - length items ≡ old.spare =
-        ap (λ (r : Numbering). r.spare) c.self.view_is in
+    ap (λ (r : Numbering). r.spare) c.self.view_is in
     let added : clauses_at items places ≡ old.added = ap (λ (r : Numbering). r.added) c.self.view_is in
     let kept : n ≡ old.kept = ap (λ (r : Numbering). r.kept) c.self.view_is in
     let news : List (List ℕ) = c.truncate.new.self.items in
@@ -23,9 +23,9 @@ returns c =
     let left : length news ≡ n = ap length cut ∙ omega (arith, length-take n items) in
     let all : length items ≡ length old.list = ap length list in
     let room : min (vec_capacity c.truncate.new.self) 4294967295 - length news
-            ≡ old.spare + (length old.list - old.kept) =
-        let same : vec_capacity c.truncate.new.self ≡ vec_capacity c.self.inside.clauses = c.truncate.ensures.capacity in
-        omega arith in
+    ≡ old.spare + (length old.list - old.kept) =
+    let same : vec_capacity c.truncate.new.self ≡ vec_capacity c.self.inside.clauses = c.truncate.ensures.capacity in
+    omega arith in
     same_numbering news (take old.kept old.list) (clauses_at news places) old.added
     (min (vec_capacity c.truncate.new.self) 4294967295 - length news) (old.spare + (length old.list - old.kept)) n old.kept
     (cut ∙ ap (λ v. take v items) kept ∙ ap (take old.kept) list) room

@@ -14,19 +14,19 @@ returns c =
     let clause : List ℕ = c.args.clause in
     let list : items ≡ old.list = ap (λ (r : Numbering). r.list) c.self.view_is in
     let spare : min (vec_capacity c.self.inside.clauses) 4294967295 - length items ≡ old.spare =
-        ap (λ (r : Numbering). r.spare) c.self.view_is in
+    ap (λ (r : Numbering). r.spare) c.self.view_is in
     let added : clauses_at items places ≡ old.added = ap (λ (r : Numbering). r.added) c.self.view_is in
     let kept : c.self.inside.kept ≡ old.kept = ap (λ (r : Numbering). r.kept) c.self.view_is in
     let news : List (List ℕ) = c.push_reserved.new.self.items in
     let more : news ≡ items ++ clause ∷ [] = c.push_reserved.ensures.items in
     let one : length news ≡ length items + 1 = ap length more ∙ length-append items (clause ∷ []) in
     let room : min (vec_capacity c.push_reserved.new.self) 4294967295 - length news ≡ old.spare - 1 =
-        let same : vec_capacity c.push_reserved.new.self ≡ vec_capacity c.self.inside.clauses =
-            c.push_reserved.ensures.capacity in
-        omega arith in
+    let same : vec_capacity c.push_reserved.new.self ≡ vec_capacity c.self.inside.clauses =
+    c.push_reserved.ensures.capacity in
+    omega arith in
     let within : All (λ k. k < length items) places =
-        All-weaker (λ k. k < c.self.inside.kept) (λ k. k < length items) (λ k less. omega arith) places
-        c.self.invariant.2 in
+    All-weaker (λ k. k < c.self.inside.kept) (λ k. k < length items) (λ k less. omega arith) places
+    c.self.invariant.2 in
     same_numbering news (old.list ++ clause ∷ []) (clauses_at news places) old.added
     (min (vec_capacity c.push_reserved.new.self) 4294967295 - length news) (old.spare - 1) c.self.inside.kept old.kept
     (more ∙ ap (λ v. v ++ clause ∷ []) list) room
