@@ -1,6 +1,6 @@
 -- What is covered by clauses that follow is refuted.
-use Rattle.std.proofs.Common.{◌≡◌, ℕ, ◌&&◌, ◌||◌, Bool, true, false, not, List, [], ◌∷◌, ◌++◌, map, append_assoc, append-nil, None, refl, sym, subst, ◌∙◌, ap, arith}
-use Rattle.std.specs.List.{list_any, list_all, All}
+use Rattle.std.proofs.Common.{◌≡◌, ℕ, ◌&&◌, ◌||◌, Bool, true, false, not, List, [], ◌∷◌, ◌++◌, map, append_assoc, append-nil, refl, sym, subst, ◌∙◌, ap}
+use Rattle.std.specs.List.{list_any, All}
 use Rattle.std.proofs.lemmas.List.Elements.{All-head, All-tail, All-contains, All-push}
 use Rattle.ja_base.specs.Literals.{negated, value, SatisfiedBy, AllSatisfiedBy}
 use Rattle.ja_base.specs.Clauses.{has_literal}
@@ -9,7 +9,7 @@ use Rattle.ja_base.proofs.LiteralLemmas.{value_negated}
 use Rattle.refute_check.specs.declared.lines.Line.{Line}
 use Rattle.refute_check.specs.Checked.{Follows}
 use Rattle.refute_check.specs.Laws.{AreAccepted, with_lines, CoveredIsRefuted}
-use Rattle.refute_check.specs.Refuted.{Satisfies, IsRefuted, has_both_signs, is_false_under, is_covered}
+use Rattle.refute_check.specs.Refuted.{IsRefuted, has_both_signs, is_false_under, is_covered}
 use Rattle.refute_check.proofs.Sound.{accepted_follows}
 
 -- each of these literals is 1 under v

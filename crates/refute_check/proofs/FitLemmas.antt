@@ -1,12 +1,11 @@
 -- In an ascending list the negation of a literal comes next, if it comes later at all.
-use Rattle.std.proofs.Common.{◌≡◌, ℕ, ◌+◌, ◌-◌, ◌/◌, ◌%◌, ◌<◌, ◌≤◌, ◌==◌, ◌&&◌, ◌||◌, Bool, true, false, not, cond, nat_lt, List, [], ◌∷◌, length, get_or, drop, suc, add-one, refl, sym, subst, ◌∙◌, ap, arith}
+use Rattle.std.proofs.Common.{◌≡◌, ℕ, ◌+◌, ◌<◌, ◌≤◌, ◌==◌, ◌&&◌, ◌||◌, Bool, true, false, not, nat_lt, List, [], ◌∷◌, length, get_or, drop, suc, add-one, refl, sym, subst, ◌∙◌, ap, arith}
 use Rattle.std.proofs.Math.Seq.{drop-cons}
 use Rattle.std.specs.List.{list_any, list_all}
-use Rattle.std.proofs.lemmas.Bool.Decides.{nat_tests, eqb_tells}
-use Rattle.ja_base.specs.Literals.{variable, is_negated, negated}
+use Rattle.std.proofs.lemmas.Bool.Decides.{nat_tests}
+use Rattle.ja_base.specs.Literals.{variable, negated}
 use Rattle.ja_base.specs.Clauses.{has_literal}
 use Rattle.ja_base.proofs.ClauseLemmas.{IsAbove, Ascends, IsAbove-lower, absent_from_above}
-use Rattle.ja_base.proofs.LiteralLemmas.{negated_twice}
 use Rattle.refute_check.specs.Refuted.{has_both_signs}
 use Rattle.refute_check.specs.Lines.{first_is, is_fit}
 

@@ -1,8 +1,8 @@
 -- Numbered clauses as they come and go.
-use Rattle.std.proofs.Common.{◌≡◌, ℕ, ◌+◌, ◌-◌, ◌*◌, ◌<◌, ◌≤◌, ◌&&◌, Bool, true, false, not, cond, nat_lt, List, [], ◌∷◌, ◌++◌, length, get_or, take, drop, map, min, Option, Some, None, Result, Ok, Err, OnOk, OnErr, refl, sym, subst, ◌∙◌, ap, arith, take-append-drop}
-use Rattle.std.specs.List.{All, AllPass, list_all}
+use Rattle.std.proofs.Common.{◌≡◌, ℕ, ◌+◌, ◌-◌, ◌<◌, ◌≤◌, ◌&&◌, Bool, true, false, not, cond, nat_lt, List, [], ◌∷◌, ◌++◌, length, get_or, take, drop, Some, None, Result, Ok, Err, OnOk, OnErr, refl, sym, subst, ◌∙◌, ap, arith, take-append-drop}
+use Rattle.std.specs.List.{All, list_all}
 use Rattle.std.proofs.Math.Seq.{get_or-append_seam}
-use Rattle.std.proofs.lemmas.Bool.Decides.{nat_tests, Decides-ltb, Decides-by_and}
+use Rattle.std.proofs.lemmas.Bool.Decides.{Decides-ltb, Decides-by_and}
 use Rattle.std.proofs.lemmas.List.{get_or_append_left, map-append, length-append, length-take, take_at}
 use Rattle.std.proofs.lemmas.List.Elements.{All-head, All-tail, All-push, All-take, All-weaker, All-same}
 use Rattle.ja_base.specs.Literals.{variable, value, SatisfiedBy, AllSatisfiedBy}
@@ -38,7 +38,7 @@ clauses_at_push xs c places h =
     ∙ ap (λ v. v ++ get_or (xs ++ c ∷ []) (length xs) [] ∷ []) (clauses_at_more xs (c ∷ []) places h)
     ∙ ap (λ v. clauses_at xs places ++ v ∷ []) (get_or-append_seam xs c [] [])
 
-fit_below : (vars : ℕ) (clause : List ℕ) → is_fit vars clause ≡ true → IsBelow vars clause
+pub fit_below : (vars : ℕ) (clause : List ℕ) → is_fit vars clause ≡ true → IsBelow vars clause
 fit_below vars clause e =
     (Decides-by_and (λ l. nat_lt (variable l) vars) (λ l. variable l < vars) (list_all (λ l. nat_lt (variable l) vars))
     (λ l. Decides-ltb (variable l) vars) refl (λ _ _. refl) clause).0

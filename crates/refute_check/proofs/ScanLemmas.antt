@@ -1,8 +1,7 @@
 -- What one scan of a clause finds.
 use Rattle.std.proofs.Common.{◌≡◌, ℕ, ◌&&◌, Bool, true, false, not, cond, List, [], ◌∷◌, refl}
 use Rattle.ja_base.specs.Literals.{bit, negated}
-use Rattle.refute_check.specs.declared.found.Found.{Found}
-use Rattle.refute_check.specs.declared.found.Found.TheVariants.{False, Forces, Other}
+use Rattle.refute_check.specs.declared.found.Found.TheVariants.{Forces, Other}
 use Rattle.refute_check.specs.Lines.{found_of, open_lits, are_false}
 
 -- no literal is left where each is false

@@ -1,6 +1,6 @@
 -- What an accepted line says of each row under which the clauses before it hold.
-use Rattle.std.proofs.Common.{◌≡◌, ℕ, ◌+◌, ◌*◌, ◌<◌, ◌≤◌, ◌⊎◌, ◌||◌, Bool, true, false, not, cond, inl, inr, List, [], ◌∷◌, length, get_or, set, replicate, Option, Some, None, slice_get, refl, sym, subst, ◌∙◌, ap, arith}
-use Rattle.std.specs.List.{list_any, All}
+use Rattle.std.proofs.Common.{◌≡◌, ℕ, ◌+◌, ◌*◌, ◌||◌, Bool, true, false, not, cond, inl, inr, List, [], ◌∷◌, set, replicate, Option, Some, None, slice_get, refl, sym, subst, ◌∙◌, ap, arith}
+use Rattle.std.specs.List.{list_any}
 use Rattle.std.proofs.lemmas.List.{get_or-set_other}
 use Rattle.std.proofs.lemmas.Option.{get_or_from_slice_get, slice_get_within}
 use Rattle.std.proofs.lemmas.Bool.Decides.{eqb_tells}

@@ -1,5 +1,5 @@
 -- After a line was judged no literal is known to be true, as before.
-use Rattle.std.proofs.Common.{◌≡◌, ℕ, ◌+◌, ◌*◌, ◌<◌, ◌⊎◌, Bool, true, false, not, cond, List, [], ◌∷◌, length, get_or, set, replicate, map, Option, Some, None, slice_get, suc, zero, inl, inr, refl, sym, subst, ◌∙◌, ap, arith}
+use Rattle.std.proofs.Common.{◌≡◌, ℕ, ◌+◌, ◌*◌, ◌⊎◌, Bool, true, false, not, cond, List, [], ◌∷◌, length, set, replicate, map, Option, Some, None, slice_get, suc, zero, inl, inr, refl, sym, subst, ◌∙◌, ap, arith}
 use Rattle.std.proofs.Math.ListN.{length-set}
 use Rattle.ja_base.specs.Literals.{bit, negated}
 use Rattle.refute_check.specs.declared.found.Found.{Found}

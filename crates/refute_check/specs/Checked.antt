@@ -1,7 +1,6 @@
 -- What a contract sees of a checker, and of the list that it keeps.
-use Rattle.std.specs.Prelude.{◌≡◌, ℕ, ◌+◌, ◌-◌, ◌<◌, ◌≤◌, List, [], ◌∷◌, ◌++◌, All, Bool, length, map, min, take, slice_index_or, slice_get, Option, Some}
+use Rattle.std.specs.Prelude.{◌≡◌, ℕ, ◌+◌, ◌-◌, ◌≤◌, List, [], ◌∷◌, ◌++◌, Bool, length, map, take, slice_index_or}
 use Rattle.ja_base.specs.Literals.{value, SatisfiedBy, AllSatisfiedBy}
-use Rattle.ja_base.specs.Clauses.{IsBelow}
 
 -- the clauses by number, how many more find room, those of them that were added, and how many there were after the last
 -- of these came
@@ -37,13 +36,6 @@ Follows added list = (row : List Bool) → AllSatisfiedBy (value row) added → 
 -- each row under which all clauses of the list hold makes this one hold
 abbrev pub FollowsOne : List (List ℕ) → List ℕ → Type 0
 FollowsOne added clause = (row : List Bool) → AllSatisfiedBy (value row) added → SatisfiedBy (value row) clause
-
--- the same checker, but for the room
-pub record IsSame (before after : Checked) : Type 0 where
-  pub vars : after.vars ≡ before.vars
-  pub list : after.list ≡ before.list
-  pub added : after.added ≡ before.added
-  pub kept : after.kept ≡ before.kept
 
 -- the clause came last, as one that was added
 pub record IsAdded (before : Checked) (clause : List ℕ) (after : Checked) : Type 0 where

@@ -1,6 +1,5 @@
 -- Statements over the definitions alone.
-use Rattle.std.specs.Prelude.{◌≡◌, ℕ, Bool, true, List, [], ◌∷◌, ◌++◌, map, None, ⊤}
-use Rattle.ja_base.specs.Literals.{AllSatisfiedBy}
+use Rattle.std.specs.Prelude.{◌≡◌, ℕ, true, List, [], ◌∷◌, ◌++◌, map, None, ⊤}
 use Rattle.refute_check.specs.Lines.{refusal}
 use Rattle.refute_check.specs.Refuted.{IsRefuted, is_covered}
 use Rattle.refute_check.specs.Checked.{FollowsOne}

@@ -1,6 +1,6 @@
 -- When a line is accepted by unit propagation over a numbered list of clauses. What is known is a row with one bit a
 -- literal, set where the literal is true; a literal is false where its negation is true.
-use Rattle.std.specs.Prelude.{◌≡◌, ℕ, ◌+◌, ◌*◌, ◌==◌, ◌&&◌, Bool, true, false, not, nat_lt, if◌then◌else◌, List, [], ◌∷◌, ◌++◌, replicate, slice_set, slice_get, filter, Option, Some, None, is_none}
+use Rattle.std.specs.Prelude.{ℕ, ◌+◌, ◌*◌, ◌==◌, ◌&&◌, Bool, true, false, not, nat_lt, if◌then◌else◌, List, [], ◌∷◌, replicate, slice_set, slice_get, filter, Option, Some, None, is_none}
 use Rattle.std.specs.List.{list_all}
 use Rattle.ja_base.specs.Literals.{bit, variable, negated}
 use Rattle.refute_check.specs.Refuted.{has_both_signs}

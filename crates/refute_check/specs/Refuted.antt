@@ -1,5 +1,5 @@
 -- What it is that a list of clauses is refuted, and when a clause shows it at once.
-use Rattle.std.specs.Prelude.{◌≡◌, ℕ, ◌&&◌, ◌||◌, Bool, true, List, All, length}
+use Rattle.std.specs.Prelude.{◌≡◌, ℕ, ◌||◌, Bool, true, List, All, length}
 use Rattle.std.specs.List.{list_any, list_all}
 use Rattle.ja_base.specs.Literals.{negated, value, AllSatisfiedBy}
 use Rattle.ja_base.specs.Clauses.{has_literal}

@@ -11,6 +11,8 @@ mod laws;
 mod lines;
 mod numbered;
 mod propagate;
+#[cfg(test)]
+mod tests;
 
 pub use checker::{Checker, LineRefused};
 pub use laws::{accepted_lines_hold, what_is_covered_is_refuted};

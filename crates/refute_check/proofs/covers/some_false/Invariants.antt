@@ -1,4 +1,4 @@
-use Rattle.std.proofs.Common.{◌≡◌, take, ◌≤◌, length}
+use Rattle.std.proofs.Common.{◌≡◌, take}
 use Rattle.std.specs.List.{list_any}
 use Rattle.refute_check.specs.Refuted.{is_false_under}
 use Rattle.refute_check.proofs.covers.some_false.Given as goal

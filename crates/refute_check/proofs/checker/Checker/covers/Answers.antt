@@ -1,13 +1,9 @@
-use Rattle.std.proofs.Common.{◌≡◌, ℕ, ◌+◌, ◌-◌, Bool, true, List, [], ◌∷◌, ◌++◌, length, drop, None, refl, sym, subst, ◌∙◌, ap, arith}
+use Rattle.std.proofs.Common.{ℕ, sym, subst, ◌∙◌, ap}
 use Rattle.std.specs.Bool.{OnTrue}
 use Rattle.std.proofs.lemmas.Bool.{OnTrue_from}
-use Rattle.std.proofs.lemmas.List.{take_at}
-use Rattle.refute_check.specs.Checked.{Checked, Numbering, FollowsOne}
-use Rattle.refute_check.specs.Lines.{refusal}
+use Rattle.refute_check.specs.Checked.{Checked, Numbering}
 use Rattle.refute_check.specs.Refuted.{IsRefuted, is_covered}
 use Rattle.refute_check.proofs.Covered.{covered_is_refuted}
-use Rattle.refute_check.proofs.Sound.{accepted_follows}
-use Rattle.refute_check.proofs.ListLemmas.{IsKept, kept_by_line, kept_by_cut, kept_by_try}
 use Rattle.refute_check.proofs.checker.Checker.covers.Goals as goal
 
 pub returns-clause-refuted : goal.returns-clause-refuted

@@ -1,9 +1,9 @@
-use Rattle.std.proofs.Common.{◌≡◌, ℕ, ◌+◌, ◌-◌, ◌<◌, ◌≤◌, List, [], ◌∷◌, ◌++◌, length, min, take, vec_len, vec_capacity, refl, sym, ◌∙◌, ap, arith}
+use Rattle.std.proofs.Common.{◌≡◌, ℕ, ◌+◌, ◌-◌, ◌<◌, List, [], ◌∷◌, ◌++◌, length, min, vec_capacity, sym, ◌∙◌, ap, arith}
 use Rattle.std.specs.List.{All}
-use Rattle.std.proofs.lemmas.List.{length-append, length-take}
+use Rattle.std.proofs.lemmas.List.{length-append}
 use Rattle.std.proofs.lemmas.List.Elements.{All-weaker}
-use Rattle.refute_check.specs.Checked.{Numbering, Adds, clauses_at}
-use Rattle.refute_check.proofs.ListLemmas.{clauses_at_more, clauses_at_take, clauses_at_push, same_numbering}
+use Rattle.refute_check.specs.Checked.{Numbering, clauses_at}
+use Rattle.refute_check.proofs.ListLemmas.{clauses_at_push}
 use Rattle.refute_check.proofs.numbered.Numbered.add.Goals as goal
 
 pub returns-clause-ok : goal.returns-clause-ok
