@@ -81,3 +81,6 @@ fn read_exactly(
     let expect = all_read(alloc, bytes, design.props())?;
     Ok(expect)
 }
+
+#[cfg(test)]
+mod tests;

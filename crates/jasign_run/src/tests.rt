@@ -1,3 +1,5 @@
+ghost use Rattle.std.specs.Prelude.{◌<◌};
+
 use crate::{confirm_run, jasign_run};
 use ja_outside::{MemShelf, MemSink};
 use std::alloc::{AllocError, Global};
