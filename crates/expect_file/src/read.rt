@@ -81,6 +81,3 @@ fn read_exactly(
     let expect = all_read(alloc, bytes, design.props())?;
     Ok(expect)
 }
-
-#[cfg(test)]
-mod tests;
