@@ -4,12 +4,14 @@ use Rattle.aiger_lines.specs.declared.refusal.Large.{Large}
 use Rattle.aiger_lines.specs.declared.refusal.Large.TheVariants.{File, Vars, Props, Lines}
 use Rattle.aiger_lines.specs.declared.refusal.ReadRefusal.{ReadRefusal}
 use Rattle.aiger_lines.specs.declared.refusal.ReadRefusal.TheVariants as design
+use Rattle.expect_file.specs.declared.refusal.ExpectRefusal.{ExpectRefusal}
+use Rattle.expect_file.specs.declared.refusal.ExpectRefusal.TheVariants as expect
 use Rattle.local_stim.specs.declared.refusal.StimRefusal.{StimRefusal}
 use Rattle.local_stim.specs.declared.refusal.StimRefusal.TheVariants as stimulus
 use Rattle.local_stim.specs.declared.verdict.Confirm.{Confirm}
 use Rattle.local_stim.specs.declared.verdict.Confirm.TheVariants.{Local, NotInitial, Constraint, NotBad, Assumed}
 use Rattle.jasign_run.specs.declared.outcome.Outcome.{Outcome}
-use Rattle.jasign_run.specs.declared.outcome.Outcome.TheVariants.{Replayed, DesignRefused, StimulusRefused, Usage, Outside, Memory}
+use Rattle.jasign_run.specs.declared.outcome.Outcome.TheVariants.{Replayed, DesignRefused, StimulusRefused, ExpectRefused, Usage, Outside, Memory}
 
 -- words, and a number behind them or none
 abbrev pub Phrase : Type 0
@@ -65,11 +67,19 @@ stimulus_phrase (stimulus.Width line) = (codes "3 width line ", Some line)
 stimulus_phrase (stimulus.Short line) = (codes "4 short line ", Some line)
 stimulus_phrase stimulus.TooLarge = (codes "5 too large", None)
 
+-- the number and the words of refused expectations
+abbrev pub expect_phrase : ExpectRefusal → Phrase
+expect_phrase (expect.Line line) = (codes "1 line line ", Some line)
+expect_phrase (expect.Unknown line) = (codes "2 unknown line ", Some line)
+expect_phrase (expect.Twice line) = (codes "3 twice line ", Some line)
+expect_phrase expect.TooLarge = (codes "4 too large", None)
+
 -- each line is two phrases
 abbrev pub head_phrase : Outcome → Phrase
 head_phrase (Replayed verdict prop steps) = verdict_head verdict prop
 head_phrase (DesignRefused refusal) = (codes "fault: design ", None)
 head_phrase (StimulusRefused refusal) = (codes "fault: stimulus ", None)
+head_phrase (ExpectRefused refusal) = (codes "fault: expect ", None)
 head_phrase Usage = (codes "fault: usage", None)
 head_phrase Outside = (codes "fault: outside", None)
 head_phrase Memory = (codes "fault: memory", None)
@@ -78,6 +88,7 @@ abbrev pub rest_phrase : Outcome → Phrase
 rest_phrase (Replayed verdict prop steps) = verdict_rest verdict steps
 rest_phrase (DesignRefused refusal) = design_phrase refusal
 rest_phrase (StimulusRefused refusal) = stimulus_phrase refusal
+rest_phrase (ExpectRefused refusal) = expect_phrase refusal
 rest_phrase Usage = ([], None)
 rest_phrase Outside = ([], None)
 rest_phrase Memory = ([], None)
@@ -98,6 +109,7 @@ abbrev pub outcome_status : Outcome → ℕ
 outcome_status (Replayed verdict prop steps) = verdict_status verdict
 outcome_status (DesignRefused refusal) = 3
 outcome_status (StimulusRefused refusal) = 3
+outcome_status (ExpectRefused refusal) = 3
 outcome_status Usage = 4
 outcome_status Outside = 5
 outcome_status Memory = 6

@@ -30,7 +30,7 @@ fn status_of(outcome: &Outcome) -> u8
 {
     match outcome {
         Outcome::Replayed { verdict, .. } => verdict_status(*verdict),
-        Outcome::DesignRefused(_) | Outcome::StimulusRefused(_) => 3,
+        Outcome::DesignRefused(_) | Outcome::StimulusRefused(_) | Outcome::ExpectRefused(_) => 3,
         Outcome::Usage => 4,
         Outcome::Outside => 5,
         Outcome::Memory => 6,

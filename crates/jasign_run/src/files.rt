@@ -1,20 +1,24 @@
 //! The files of a command: each is read to its end and accepted, or the outcome says why not.
 
-ghost use Rattle.std.specs.Prelude.{◌≡◌, ◌≤◌, MatchResult};
+ghost use Rattle.std.specs.Prelude.{◌≡◌, ◌≤◌, length, replicate, true, option_map, IfOk, MatchResult};
 ghost use Rattle.ja_base.specs.Runs.{Trace};
-ghost use Rattle.jasign_run.specs.Meaning.{IsDesignFile, NoDesign, IsStimulusFile, NoStimulus};
+ghost use Rattle.jasign_run.specs.Meaning.{IsDesignFile, NoDesign, IsStimulusFile, NoStimulus, IsExpectFile, NoExpectations, IsExpected, NothingExpected};
 
 use crate::outcome::Outcome;
-use aig_model::{Design, Stimulus};
+use aig_model::{Design, Expect, Stimulus};
 use aiger_ascii::read_ascii;
 use aiger_lines::{Large, ReadRefusal};
-use ja_base::OrMemory;
+use expect_file::{ExpectRefusal, read_expect};
+use ja_base::{Memory, OrMemory};
 use ja_outside::{Shelf, Whole, read_whole};
 use local_stim::{StimRefusal, read_stim};
 use std::alloc::Global;
 
 /// The most bytes that a design or a stimulus may have.
 const MOST: u64 = 67_108_864;
+
+/// The most bytes that expectations may have.
+const MOST_EXPECT: u64 = 4_194_304;
 
 /// The design under the name, or what the run comes to.
 pub fn design_of<F: Shelf>(alloc: Global, shelf: &mut F, name: &str) -> Result<Design, Outcome>
@@ -61,5 +65,54 @@ pub fn stimulus_of<F: Shelf>(
         Whole::TooLarge => Err(Outcome::StimulusRefused(StimRefusal::TooLarge)),
         Whole::Failed => Err(Outcome::Outside),
         Whole::Memory => Err(Outcome::Memory),
+    }
+}
+
+fn expectations_of<F: Shelf>(
+    alloc: Global,
+    shelf: &mut F,
+    name: &str,
+    design: &Design,
+) -> Result<Expect, Outcome>
+    ensures kept { F.holds shelf.new ≡ F.holds shelf.old }
+    ensures later { F.faults shelf.old ≤ F.faults shelf.new }
+    ensures sized { IfOk result (λ expected. length expected ≡ length design.now.bads) }
+    ensures cases { MatchResult result
+        (λ expected. IsExpectFile (F.holds shelf.old) name.now design.now expected)
+        (λ o. NoExpectations (F.holds shelf.old) (F.faults shelf.old) (F.faults shelf.new) name.now design.now o) }
+{
+    match read_whole(alloc, shelf, name, MOST_EXPECT) {
+        Whole::Bytes(bytes) => match read_expect(alloc, bytes.as_slice(), design) {
+            Ok(expect) => Ok(expect),
+            Err(OrMemory::Refused(refusal)) => Err(Outcome::ExpectRefused(refusal)),
+            Err(OrMemory::Memory) => Err(Outcome::Memory),
+        },
+        Whole::TooLarge => Err(Outcome::ExpectRefused(ExpectRefusal::TooLarge)),
+        Whole::Failed => Err(Outcome::Outside),
+        Whole::Memory => Err(Outcome::Memory),
+    }
+}
+
+/// What is expected of each property, by the file where one is named, or what the run comes to.
+pub fn expected_of<F: Shelf>(
+    alloc: Global,
+    shelf: &mut F,
+    name: Option<&str>,
+    design: &Design,
+) -> Result<Expect, Outcome>
+    ensures kept { F.holds shelf.new ≡ F.holds shelf.old }
+    ensures later { F.faults shelf.old ≤ F.faults shelf.new }
+    ensures sized { IfOk result (λ expected. length expected ≡ length design.now.bads) }
+    ensures cases { MatchResult result
+        (λ expected. IsExpected (F.holds shelf.old) (option_map (λ x. x.now) name.entry) design.now expected)
+        (λ o. NothingExpected (F.holds shelf.old) (F.faults shelf.old) (F.faults shelf.new)
+        (option_map (λ x. x.now) name.entry) design.now o) }
+{
+    match name {
+        Some(name) => expectations_of(alloc, shelf, name, design),
+        None => match Expect::all(alloc, design.props()) {
+            Ok(expect) => Ok(expect),
+            Err(Memory) => Err(Outcome::Memory),
+        },
     }
 }

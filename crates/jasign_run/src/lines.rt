@@ -1,10 +1,11 @@
 //! The lines that are written: a table of words for each kind of answer.
 
 ghost use Rattle.std.specs.Prelude.{◌≡◌, ℕ, ◌∷◌, [], ◌++◌, IfOk, OnOk};
-ghost use Rattle.jasign_run.specs.Lines.{phrase_text, verdict_head, verdict_rest, large_words, design_phrase, stimulus_phrase, head_phrase, rest_phrase, outcome_line};
+ghost use Rattle.jasign_run.specs.Lines.{phrase_text, verdict_head, verdict_rest, large_words, design_phrase, stimulus_phrase, expect_phrase, head_phrase, rest_phrase, outcome_line};
 
 use crate::outcome::Outcome;
 use aiger_lines::{Large, ReadRefusal};
+use expect_file::ExpectRefusal;
 use ja_base::Memory;
 use ja_text::Text;
 use local_stim::{Confirm, StimRefusal};
@@ -102,6 +103,17 @@ fn stimulus_phrase(refusal: StimRefusal) -> Phrase
     }
 }
 
+fn expect_phrase(refusal: ExpectRefusal) -> Phrase
+    ensures { (result.words.now, result.number) ≡ expect_phrase refusal }
+{
+    match refusal {
+        ExpectRefusal::Line { line } => counted(b"1 line line ", line),
+        ExpectRefusal::Unknown { line } => counted(b"2 unknown line ", line),
+        ExpectRefusal::Twice { line } => counted(b"3 twice line ", line),
+        ExpectRefusal::TooLarge => plain(b"4 too large"),
+    }
+}
+
 fn head_phrase(outcome: &Outcome) -> Phrase
     ensures { (result.words.now, result.number) ≡ head_phrase outcome.now }
 {
@@ -109,6 +121,7 @@ fn head_phrase(outcome: &Outcome) -> Phrase
         Outcome::Replayed { verdict, prop, .. } => verdict_head(*verdict, *prop),
         Outcome::DesignRefused(_) => plain(b"fault: design "),
         Outcome::StimulusRefused(_) => plain(b"fault: stimulus "),
+        Outcome::ExpectRefused(_) => plain(b"fault: expect "),
         Outcome::Usage => plain(b"fault: usage"),
         Outcome::Outside => plain(b"fault: outside"),
         Outcome::Memory => plain(b"fault: memory"),
@@ -122,6 +135,7 @@ fn rest_phrase(outcome: &Outcome) -> Phrase
         Outcome::Replayed { verdict, steps, .. } => verdict_rest(*verdict, *steps),
         Outcome::DesignRefused(refusal) => design_phrase(refusal),
         Outcome::StimulusRefused(refusal) => stimulus_phrase(*refusal),
+        Outcome::ExpectRefused(refusal) => expect_phrase(*refusal),
         Outcome::Usage | Outcome::Outside | Outcome::Memory => plain(b""),
     }
 }

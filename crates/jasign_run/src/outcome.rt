@@ -1,6 +1,7 @@
 //! What a run comes to.
 
 use aiger_lines::ReadRefusal;
+use expect_file::ExpectRefusal;
 use local_stim::{Confirm, StimRefusal};
 
 /// What a run comes to, before its line is written.
@@ -14,6 +15,7 @@ pub enum Outcome {
     },
     DesignRefused(ReadRefusal),
     StimulusRefused(StimRefusal),
+    ExpectRefused(ExpectRefusal),
     /// The words are in no command's form.
     Usage,
     /// A file could not be read.

@@ -33,7 +33,7 @@ pub fn jasign_run<F: Shelf, K: Sink>(
     ensures sink_later { K.faults out.old ≤ K.faults out.new }
 {
     let status = match read_words(words) {
-        Some(names) => confirm_run(alloc, names.design, names.stim, shelf, out),
+        Some(names) => confirm_run(alloc, names.design, names.stim, names.expect, shelf, out),
         None => finish(alloc, &Outcome::Usage, out),
     };
     Ran { status }

@@ -272,21 +272,204 @@ const REFUSALS: [Case; 24] = [
     },
 ];
 
+const EXPECTATIONS: [(&[u8], Case); 20] = [
+    (
+        b"expect 1\n# second grant is reachable\nfail b1\n",
+        Case {
+            design: ARBITER,
+            stim: b"1\nb1\n00\n01\n00\n.\n",
+            line: b"confirmed b1 steps 2\n",
+            status: 0,
+        },
+    ),
+    (
+        b"expect 1\n# second grant is reachable\nfail b1\n",
+        Case {
+            design: ARBITER,
+            stim: b"1\nb1\nxx\nx1\nxx\n.\n",
+            line: b"confirmed b1 steps 2\n",
+            status: 0,
+        },
+    ),
+    (
+        b"expect 1\nfail b1\n",
+        Case {
+            design: ARBITER,
+            stim: b"1\nb1\n00\n01\n.\n",
+            line: b"not confirmed: not bad\n",
+            status: 1,
+        },
+    ),
+    (
+        b"expect 1\nfail b1\n",
+        Case {
+            design: ARBITER,
+            stim: b"1\nb1\n00\n0\n.\n",
+            line: b"fault: stimulus 3 width line 4\n",
+            status: 3,
+        },
+    ),
+    (
+        b"expect 2\n",
+        Case {
+            design: ARBITER,
+            stim: b"1\nb1\n00\n01\n",
+            line: b"fault: stimulus 4 short line 5\n",
+            status: 3,
+        },
+    ),
+    (
+        b"expect 1\nfail b0\n",
+        Case {
+            design: TWO_LATCHES,
+            stim: b"1\nb1\n00\n\n\n\n.\n",
+            line: b"confirmed b1 steps 3\n",
+            status: 0,
+        },
+    ),
+    (
+        b"expect 1\nfail b000",
+        Case {
+            design: TWO_LATCHES,
+            stim: b"1\nb1\n00\n\n\n\n.\n",
+            line: b"confirmed b1 steps 3\n",
+            status: 0,
+        },
+    ),
+    (
+        b"expect 1\n",
+        Case {
+            design: TWO_LATCHES,
+            stim: b"1\nb1\n00\n\n\n\n.\n",
+            line: b"not confirmed: b0 broke at step 1\n",
+            status: 1,
+        },
+    ),
+    (
+        b"expect 1\nhold b0\n\n#\nfail b1\n",
+        Case {
+            design: TWO_LATCHES,
+            stim: b"1\nb1\n00\n\n\n\n.\n",
+            line: b"not confirmed: b0 broke at step 1\n",
+            status: 1,
+        },
+    ),
+    (
+        b"expect 1",
+        Case {
+            design: TWO_LATCHES,
+            stim: b"1\nb0\n00\n\n\n\n.\n",
+            line: b"not confirmed: b0 broke at step 1\n",
+            status: 1,
+        },
+    ),
+    (
+        b"expect 1\nfail b0\n",
+        Case {
+            design: TWO_LATCHES,
+            stim: b"1\nb0\n00\n\n\n\n.\n",
+            line: b"confirmed b0 steps 3\n",
+            status: 0,
+        },
+    ),
+    (
+        b"expect 1\nfail b0\nhold b0\n",
+        Case {
+            design: TWO_LATCHES,
+            stim: b"1\nb0\n00\n\n\n.\n",
+            line: b"fault: expect 3 twice line 3\n",
+            status: 3,
+        },
+    ),
+    (
+        b"expect 1\nhold b0\nhold b0\n",
+        Case {
+            design: TWO_LATCHES,
+            stim: b"1\nb0\n00\n\n\n.\n",
+            line: b"fault: expect 3 twice line 3\n",
+            status: 3,
+        },
+    ),
+    (
+        b"expect 2\n",
+        Case {
+            design: TWO_LATCHES,
+            stim: b"1\nb0\n00\n\n\n.\n",
+            line: b"fault: expect 1 line line 1\n",
+            status: 3,
+        },
+    ),
+    (
+        b"",
+        Case {
+            design: TWO_LATCHES,
+            stim: b"1\nb0\n00\n\n\n.\n",
+            line: b"fault: expect 1 line line 1\n",
+            status: 3,
+        },
+    ),
+    (
+        b"expect 01\n",
+        Case {
+            design: TWO_LATCHES,
+            stim: b"1\nb0\n00\n\n\n.\n",
+            line: b"fault: expect 1 line line 1\n",
+            status: 3,
+        },
+    ),
+    (
+        b"expect 1\r\n",
+        Case {
+            design: TWO_LATCHES,
+            stim: b"1\nb0\n00\n\n\n.\n",
+            line: b"fault: expect 1 line line 1\n",
+            status: 3,
+        },
+    ),
+    (
+        b"expect 1\n\nfail b0 \n",
+        Case {
+            design: TWO_LATCHES,
+            stim: b"1\nb0\n00\n\n\n.\n",
+            line: b"fault: expect 1 line line 3\n",
+            status: 3,
+        },
+    ),
+    (
+        b"expect 1\nfail b2\nfail\n",
+        Case {
+            design: TWO_LATCHES,
+            stim: b"1\nb0\n00\n\n\n.\n",
+            line: b"fault: expect 2 unknown line 2\n",
+            status: 3,
+        },
+    ),
+    (
+        b"expect 1\nhold b18446744073709551616\n",
+        Case {
+            design: TWO_LATCHES,
+            stim: b"1\nb0\n00\n\n\n.\n",
+            line: b"fault: expect 2 unknown line 2\n",
+            status: 3,
+        },
+    ),
+];
+
 fn shelf_of(
     alloc: Global,
-    design: &[u8],
-    stim: &[u8],
+    held: &[&[u8]],
     piece: usize,
     fails: Vec<u64>,
 ) -> Result<MemShelf, AllocError>
     requires { 0 < piece }
 {
     let mut files = Vec::new(alloc);
-    files.push((
-        String::from_str(alloc, "d")?,
-        Vec::from_slice(alloc, design)?,
-    ))?;
-    files.push((String::from_str(alloc, "s")?, Vec::from_slice(alloc, stim)?))?;
+    for (name, bytes) in ["d", "s", "e"].iter().zip(held) {
+        files.push((
+            String::from_str(alloc, name)?,
+            Vec::from_slice(alloc, bytes)?,
+        ))?;
+    }
     Ok(MemShelf::new(files, piece, fails))
 }
 
@@ -298,11 +481,17 @@ fn words_of(alloc: Global, words: &[&str]) -> Result<Vec<String>, AllocError> {
     Ok(all)
 }
 
-fn check_case(rt: &(impl std::process::Abort + AllocGlobal), case: &Case) -> Result<(), Fail> {
+/// The words name the files `d`, `s` and `e`, as many as there are.
+fn check_case(
+    rt: &(impl std::process::Abort + AllocGlobal),
+    case: &Case,
+    held: &[&[u8]],
+    words: &[&str],
+) -> Result<(), Fail> {
     let alloc = rt.alloc();
-    let mut shelf = shelf_of(alloc, case.design, case.stim, 4, Vec::new(alloc))?;
+    let mut shelf = shelf_of(alloc, held, 4, Vec::new(alloc))?;
     let mut out = MemSink::new(alloc, 100)?;
-    let words = words_of(alloc, &["confirm", "d", "s"])?;
+    let words = words_of(alloc, words)?;
     let ran = jasign_run(alloc, words.as_slice(), &mut shelf, &mut out);
     assert_eq!(rt; out.bytes(), case.line);
     assert_eq!(rt; ran.status, case.status);
@@ -312,7 +501,7 @@ fn check_case(rt: &(impl std::process::Abort + AllocGlobal), case: &Case) -> Res
 #[test]
 fn replays(rt: HostRuntime) -> Result<(), Fail> {
     for case in &REPLAYS {
-        check_case(&rt, case)?;
+        check_case(&rt, case, &[case.design, case.stim], &["confirm", "d", "s"])?;
     }
     Ok(())
 }
@@ -320,22 +509,36 @@ fn replays(rt: HostRuntime) -> Result<(), Fail> {
 #[test]
 fn refusals(rt: HostRuntime) -> Result<(), Fail> {
     for case in &REFUSALS {
-        check_case(&rt, case)?;
+        check_case(&rt, case, &[case.design, case.stim], &["confirm", "d", "s"])?;
+    }
+    Ok(())
+}
+
+#[test]
+fn expectations(rt: HostRuntime) -> Result<(), Fail> {
+    for (expect, case) in &EXPECTATIONS {
+        check_case(
+            &rt,
+            case,
+            &[case.design, case.stim, *expect],
+            &["confirm", "d", "s", "e"],
+        )?;
     }
     Ok(())
 }
 
 /// The calls on the shelf, from 0: the design is selected, read by 8, 8, 8, 4 and 0 bytes, the stimulus selected, read by
-/// 8, 4 and 0.
+/// 8, 4 and 0, the expectations selected, read by 8, 1 and 0.
 #[test]
 fn each_call_on_the_shelf_fails(rt: HostRuntime) -> Result<(), Fail> {
     let alloc = rt.alloc();
-    for call in 0..11u64 {
+    for call in 0..15u64 {
         let fails = vec![in alloc; call]?;
-        let mut shelf = shelf_of(alloc, TWO_LATCHES, b"1\nb0\n00\n\n\n.\n", 8, fails)?;
+        let held: [&[u8]; 3] = [TWO_LATCHES, b"1\nb0\n00\n\n\n.\n", b"expect 1\n"];
+        let mut shelf = shelf_of(alloc, &held, 8, fails)?;
         let mut out = MemSink::new(alloc, 100)?;
-        let status = confirm_run(alloc, "d", "s", &mut shelf, &mut out);
-        if call < 10 {
+        let status = confirm_run(alloc, "d", "s", Some("e"), &mut shelf, &mut out);
+        if call < 14 {
             assert_eq!(rt; out.bytes(), b"fault: outside\n".as_slice());
             assert_eq!(rt; status, 5);
         } else {
@@ -349,18 +552,21 @@ fn each_call_on_the_shelf_fails(rt: HostRuntime) -> Result<(), Fail> {
 #[test]
 fn a_name_that_is_not_held_and_a_sink_that_is_full(rt: HostRuntime) -> Result<(), Fail> {
     let alloc = rt.alloc();
-    let mut shelf = shelf_of(
-        alloc,
-        TWO_LATCHES,
-        b"1\nb0\n00\n\n\n.\n",
-        8,
-        Vec::new(alloc),
-    )?;
-    let mut out = MemSink::new(alloc, 100)?;
-    assert_eq!(rt; confirm_run(alloc, "d", "t", &mut shelf, &mut out), 5);
-    assert_eq!(rt; out.bytes(), b"fault: outside\n".as_slice());
+    let held: [&[u8]; 2] = [TWO_LATCHES, b"1\nb0\n00\n\n\n.\n"];
+    let mut shelf = shelf_of(alloc, &held, 8, Vec::new(alloc))?;
+    for (stim, expect) in [("t", None), ("s", Some("e")), ("s", Some("t"))] {
+        let mut out = MemSink::new(alloc, 100)?;
+        assert_eq!(rt;
+            confirm_run(alloc, "d", stim, expect, &mut shelf, &mut out),
+            5
+        );
+        assert_eq!(rt; out.bytes(), b"fault: outside\n".as_slice());
+    }
     let mut narrow = MemSink::new(alloc, 10)?;
-    assert_eq!(rt; confirm_run(alloc, "d", "s", &mut shelf, &mut narrow), 5);
+    assert_eq!(rt;
+        confirm_run(alloc, "d", "s", None, &mut shelf, &mut narrow),
+        5
+    );
     assert_eq!(rt; narrow.bytes(), b"confirmed ".as_slice());
     Ok(())
 }
@@ -368,16 +574,19 @@ fn a_name_that_is_not_held_and_a_sink_that_is_full(rt: HostRuntime) -> Result<()
 #[test]
 fn words_that_are_no_command(rt: HostRuntime) -> Result<(), Fail> {
     let alloc = rt.alloc();
-    let lists: [&[&str]; 6] = [
+    let lists: [&[&str]; 9] = [
         &[],
         &["confirm"],
         &["confirm", "d"],
         &["confirm", "d", "-s"],
         &["prove", "d", "s"],
         &["confirm", "--help", "s"],
+        &["confirm", "d", "s", "-e"],
+        &["confirm", "d", "s", "e", "f"],
+        &["confirm", "-d", "s", "e"],
     ];
     for list in lists {
-        let mut shelf = shelf_of(alloc, b"", b"", 8, Vec::new(alloc))?;
+        let mut shelf = shelf_of(alloc, &[], 8, Vec::new(alloc))?;
         let mut out = MemSink::new(alloc, 100)?;
         let words = words_of(alloc, list)?;
         let ran = jasign_run(alloc, words.as_slice(), &mut shelf, &mut out);
