@@ -26,7 +26,7 @@ const OUTPUTS: &[u8] = b"aag 1 0 1 2 0\n2 3\n2\n3\n";
 
 const FREE: &[u8] = b"aag 1 0 1 0 0 1\n2 2 2\n2\n";
 
-const REPLAYS: [Case; 16] = [
+const REPLAYS: [Case; 18] = [
     Case {
         design: TWO_LATCHES,
         stim: b"1\nb0\n00\n\n\n.\n",
@@ -123,9 +123,21 @@ const REPLAYS: [Case; 16] = [
         line: b"fault: stimulus 4 short line 5\n",
         status: 3,
     },
+    Case {
+        design: TWO_LATCHES,
+        stim: b"1\nb00000\n00\n\n\n.\n1\nb7\n",
+        line: b"confirmed b0 steps 2\n",
+        status: 0,
+    },
+    Case {
+        design: TWO_LATCHES,
+        stim: b"1\nb0\nx0\n\n\n.",
+        line: b"confirmed b0 steps 2\n",
+        status: 0,
+    },
 ];
 
-const REFUSALS: [Case; 24] = [
+const REFUSALS: [Case; 43] = [
     Case {
         design: b"",
         stim: b"",
@@ -267,6 +279,120 @@ const REFUSALS: [Case; 24] = [
     Case {
         design: TWO_LATCHES,
         stim: b"1\nb0\n00\n\n.zz",
+        line: b"fault: stimulus 4 short line 5\n",
+        status: 3,
+    },
+    Case {
+        design: TWO_LATCHES,
+        stim: b"",
+        line: b"fault: stimulus 4 short line 1\n",
+        status: 3,
+    },
+    Case {
+        design: TWO_LATCHES,
+        stim: b"1",
+        line: b"fault: stimulus 4 short line 1\n",
+        status: 3,
+    },
+    Case {
+        design: TWO_LATCHES,
+        stim: b"1\n",
+        line: b"fault: stimulus 4 short line 2\n",
+        status: 3,
+    },
+    Case {
+        design: TWO_LATCHES,
+        stim: b".",
+        line: b"fault: stimulus 1 line line 1\n",
+        status: 3,
+    },
+    Case {
+        design: TWO_LATCHES,
+        stim: b"01\n",
+        line: b"fault: stimulus 1 line line 1\n",
+        status: 3,
+    },
+    Case {
+        design: TWO_LATCHES,
+        stim: b"1\r\n",
+        line: b"fault: stimulus 1 line line 1\n",
+        status: 3,
+    },
+    Case {
+        design: TWO_LATCHES,
+        stim: b"1\nc0\n",
+        line: b"fault: stimulus 1 line line 2\n",
+        status: 3,
+    },
+    Case {
+        design: TWO_LATCHES,
+        stim: b"1\nb\n",
+        line: b"fault: stimulus 1 line line 2\n",
+        status: 3,
+    },
+    Case {
+        design: TWO_LATCHES,
+        stim: b"1\nb2\nzz\n",
+        line: b"fault: stimulus 2 unknown line 2\n",
+        status: 3,
+    },
+    Case {
+        design: TWO_LATCHES,
+        stim: b"1\nb18446744073709551616\n",
+        line: b"fault: stimulus 2 unknown line 2\n",
+        status: 3,
+    },
+    Case {
+        design: TWO_LATCHES,
+        stim: b"1\nb0\n",
+        line: b"fault: stimulus 4 short line 3\n",
+        status: 3,
+    },
+    Case {
+        design: TWO_LATCHES,
+        stim: b"1\nb0\n.",
+        line: b"fault: stimulus 1 line line 3\n",
+        status: 3,
+    },
+    Case {
+        design: TWO_LATCHES,
+        stim: b"1\nb0\n0y2\n",
+        line: b"fault: stimulus 1 line line 3\n",
+        status: 3,
+    },
+    Case {
+        design: TWO_LATCHES,
+        stim: b"1\nb0\n000\n\n.\n",
+        line: b"fault: stimulus 3 width line 3\n",
+        status: 3,
+    },
+    Case {
+        design: TWO_LATCHES,
+        stim: b"1\nb0\n00",
+        line: b"fault: stimulus 4 short line 3\n",
+        status: 3,
+    },
+    Case {
+        design: TWO_LATCHES,
+        stim: b"1\nb0\n00\n.",
+        line: b"fault: stimulus 1 line line 4\n",
+        status: 3,
+    },
+    Case {
+        design: TWO_LATCHES,
+        stim: b"1\nb0\n00\n0\n.\n",
+        line: b"fault: stimulus 3 width line 4\n",
+        status: 3,
+    },
+    Case {
+        design: TWO_LATCHES,
+        stim: b"1\nb0\n00\n\n.zz\n",
+        line: b"fault: stimulus 1 line line 5\n",
+        status: 3,
+    },
+    Case {
+        design: TWO_LATCHES,
+        stim: b"1\nb0\n00\n\n",
         line: b"fault: stimulus 4 short line 5\n",
         status: 3,
     },
