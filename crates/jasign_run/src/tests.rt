@@ -612,10 +612,13 @@ fn check_case(
     rt: &(impl std::process::Abort + AllocGlobal),
     case: &Case,
     held: &[&[u8]],
+    piece: usize,
     words: &[&str],
-) -> Result<(), Fail> {
+) -> Result<(), Fail>
+    requires { 0 < piece }
+{
     let alloc = rt.alloc();
-    let mut shelf = shelf_of(alloc, held, 4, Vec::new(alloc))?;
+    let mut shelf = shelf_of(alloc, held, piece, Vec::new(alloc))?;
     let mut out = MemSink::new(alloc, 100)?;
     let words = words_of(alloc, words)?;
     let ran = jasign_run(alloc, words.as_slice(), &mut shelf, &mut out);
@@ -627,7 +630,13 @@ fn check_case(
 #[test]
 fn replays(rt: HostRuntime) -> Result<(), Fail> {
     for case in &REPLAYS {
-        check_case(&rt, case, &[case.design, case.stim], &["confirm", "d", "s"])?;
+        check_case(
+            &rt,
+            case,
+            &[case.design, case.stim],
+            4,
+            &["confirm", "d", "s"],
+        )?;
     }
     Ok(())
 }
@@ -635,7 +644,13 @@ fn replays(rt: HostRuntime) -> Result<(), Fail> {
 #[test]
 fn refusals(rt: HostRuntime) -> Result<(), Fail> {
     for case in &REFUSALS {
-        check_case(&rt, case, &[case.design, case.stim], &["confirm", "d", "s"])?;
+        check_case(
+            &rt,
+            case,
+            &[case.design, case.stim],
+            4,
+            &["confirm", "d", "s"],
+        )?;
     }
     Ok(())
 }
@@ -647,8 +662,33 @@ fn expectations(rt: HostRuntime) -> Result<(), Fail> {
             &rt,
             case,
             &[case.design, case.stim, *expect],
+            4,
             &["confirm", "d", "s", "e"],
         )?;
+    }
+    Ok(())
+}
+
+/// Expectations of so many bytes, which are remarks but for the first line.
+#[test]
+fn expectations_that_are_too_large(rt: HostRuntime) -> Result<(), Fail> {
+    let alloc = rt.alloc();
+    let cases: [(usize, &[u8], u8); 2] = [
+        (4_194_304, b"confirmed b0 steps 2\n", 0),
+        (4_194_305, b"fault: expect 4 too large\n", 3),
+    ];
+    for (size, line, status) in cases {
+        let mut expect = Vec::from_slice(alloc, b"expect 1\n")?;
+        let remark = vec![in alloc; b'#'; size - 9]?;
+        expect.extend_from_slice(remark.as_slice())?;
+        let held: [&[u8]; 3] = [TWO_LATCHES, b"1\nb0\n00\n\n\n.\n", expect.as_slice()];
+        let mut shelf = shelf_of(alloc, &held, 4096, Vec::new(alloc))?;
+        let mut out = MemSink::new(alloc, 100)?;
+        assert_eq!(rt;
+            confirm_run(alloc, "d", "s", Some("e"), &mut shelf, &mut out),
+            status
+        );
+        assert_eq!(rt; out.bytes(), line);
     }
     Ok(())
 }
