@@ -1,5 +1,6 @@
 -- The sections of a file, read from left to right: their lists, or the first fault that is met.
-use Rattle.std.specs.Prelude.{ℕ, zero, suc, ◌+◌, ◌-◌, ◌*◌, ◌%◌, ◌==◌, ◌&&◌, nat_lt, nat_le, if◌then◌else◌, List, [], ◌∷◌, length, Result, Ok, Err}
+use Rattle.std.specs.Prelude.{ℕ, zero, suc, ◌+◌, ◌-◌, ◌*◌, ◌%◌, ◌==◌, ◌&&◌, nat_lt, nat_le, if◌then◌else◌, List, [], ◌∷◌, length, map, Result, Ok, Err}
+use Rattle.std.specs.List.{range_with_len}
 use Rattle.ja_text.specs.Reading.{◌>>=◌}
 use Rattle.ja_text.specs.Repeated.{repeated}
 use Rattle.aig_model.specs.declared.netlist.Latch.{Latch}
@@ -17,12 +18,9 @@ pub record State : Type 0 where
   pub lit : ℕ
   pub rest : List ℕ
 
--- ---- inputs
-
--- so many literals, from this one on, one for each variable
-abbrev pub literals_from : ℕ → ℕ → List ℕ
-literals_from l zero = []
-literals_from l (suc n) = l ∷ literals_from (l + 2) n
+-- the literals of so many inputs, which have no lines: the variables from 1 on
+abbrev pub input_literals : ℕ → List ℕ
+input_literals n = map (λ v. 2 * v) (range_with_len 1 n)
 
 -- ---- latches
 
@@ -91,7 +89,7 @@ sections_at size h rest = do
   Ok (
     record {
       vars = h.vars;
-      inputs = literals_from 2 h.inputs;
+      inputs = input_literals h.inputs;
       latches = latches.0;
       bads = if h.bads == 0 then outputs.0 else bads.0;
       constraints = constraints.0;
