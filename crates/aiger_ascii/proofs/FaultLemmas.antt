@@ -16,10 +16,11 @@ use Rattle.aiger_lines.specs.declared.refusal.ReadRefusal.{ReadRefusal}
 use Rattle.aiger_lines.specs.declared.refusal.ReadRefusal.TheVariants.{Symbol}
 use Rattle.aiger_lines.specs.Tail.{HasBadLine}
 use Rattle.aiger_lines.specs.Reading.{place}
+use Rattle.aiger_lines.specs.Files.{File, IsTailFault}
 use Rattle.aiger_lines.proofs.TailLemmas.{tail_has_none, bad_line_one}
 use Rattle.aiger_ascii.specs.Grammar.{Spells, IsAsciiDesign}
-use Rattle.aiger_ascii.specs.Reading.{File, file_at}
-use Rattle.aiger_ascii.specs.FirstFault.{IsLate, Becomes, IsBuildFault, IsTailFault, IsFirstFault}
+use Rattle.aiger_ascii.specs.Reading.{file_at}
+use Rattle.aiger_ascii.specs.FirstFault.{IsLate, Becomes, IsBuildFault, IsFirstFault}
 use Rattle.aiger_ascii.proofs.SpellLemmas.{file_of, file_again}
 
 -- where no variable is defined twice, that is not what lists are refused for
@@ -29,7 +30,7 @@ late_refusal p (Undefined v) once r = tt
 late_refusal p (Cycle v) once r = tt
 
 pub tail_fault : (bytes : List ℕ) (f : File) (at : ℕ) (line : List ℕ) → file_at bytes ≡ Ok f → MakesDesign f.parts → HasBadLine f.head f.tail line → at ≡ place (length bytes) line → IsFirstFault bytes (Symbol at)
-tail_fault bytes f at line e design bad at-is = rw e (inr (design, line, bad, ap (λ (k : ℕ). Symbol k) at-is))
+tail_fault bytes f at line e design bad at-is = rw e (inr (design, (line, bad, ap (λ (k : ℕ). Symbol k) at-is)))
 
 -- ---- a file that is spelled
 
@@ -38,7 +39,7 @@ no_fault bytes p r s fault =
     let late = rw (file_again bytes p s) at fault in
     elim late [
       | inl b ↦ designs_are_not_refused_lem p b.0 s.design b.1
-      | inr t ↦ tail_has_none s.head s.sections.tail t.1 s.spelled.tail t.2
+      | inr t ↦ tail_has_none s.head s.sections.tail t.1.0 s.spelled.tail t.1.1
     ]
 
 -- the bytes spell one circuit
@@ -55,7 +56,7 @@ becomes_one (Undefined v) x y g h = g ∙ sym h
 becomes_one (Cycle v) x y g h = g ∙ sym h
 
 abbrev IsFaultOf : ℕ → Result File ReadRefusal → ReadRefusal → Type 0
-IsFaultOf size read r = MatchResult read (λ f. IsBuildFault f.parts r ⊎ IsTailFault size f r) (λ fault. r ≡ fault)
+IsFaultOf size read r = MatchResult read (λ f. IsBuildFault f.parts r ⊎ (MakesDesign f.parts × IsTailFault size f r)) (λ fault. r ≡ fault)
 
 same_fault : (size : ℕ) (read : Result File ReadRefusal) (x y : ReadRefusal) → IsFaultOf size read x → IsFaultOf size read y → x ≡ y
 same_fault size (Err e) x y g h = g ∙ sym h
@@ -64,7 +65,7 @@ same_fault size (Ok f) x y (inl g) (inl h) =
 same_fault size (Ok f) x y (inl g) (inr h) = absurd (designs_are_not_refused_lem f.parts g.0 h.0 g.1)
 same_fault size (Ok f) x y (inr g) (inl h) = absurd (designs_are_not_refused_lem f.parts h.0 g.0 h.1)
 same_fault size (Ok f) x y (inr g) (inr h) =
-    g.3 ∙ ap (λ (k : List ℕ). Symbol (place size k)) (bad_line_one f.head f.tail g.1 h.1 g.2 h.2) ∙ sym h.3
+    g.1.2 ∙ ap (λ (k : List ℕ). Symbol (place size k)) (bad_line_one f.head f.tail g.1.0 h.1.0 g.1.1 h.1.1) ∙ sym h.1.2
 
 pub one_fault : (bytes : List ℕ) (x y : ReadRefusal) → IsFirstFault bytes x → IsFirstFault bytes y → x ≡ y
 one_fault bytes x y g h = same_fault (length bytes) (file_at bytes) x y g h

@@ -18,13 +18,15 @@ use Rattle.aiger_lines.specs.Header.{IsWithinLimits}
 use Rattle.aiger_lines.specs.Lines.{IsLiteralLine, IsUsed, TakesItems}
 use Rattle.aiger_lines.specs.Tail.{IsTail}
 use Rattle.aiger_lines.specs.Reading.{literal_at, header_at}
-use Rattle.aiger_lines.proofs.ListLemmas.{all_join, all_at, all_weaker, all_mapped}
+use Rattle.aiger_lines.specs.Files.{Counts, File}
+use Rattle.aiger_lines.proofs.ListLemmas.{all_join, all_mapped}
 use Rattle.aiger_lines.proofs.HeaderLemmas.{TakesHeader, header_takes}
 use Rattle.aiger_lines.proofs.SectionLemmas.{literals_take}
-use Rattle.aiger_ascii.specs.Grammar.{IsLatchLine, IsGateLine, Counts, Spells}
-use Rattle.aiger_ascii.specs.Reading.{State, input_from, input_at, latch_from, latch_at, gate_from, gate_at, state_before, sections_at, File, file_at}
+use Rattle.aiger_lines.proofs.PartsLemmas.{bind_then, IsLatchInRange, IsGateInRange, range_of_lists, properties_used}
+use Rattle.aiger_ascii.specs.Grammar.{IsLatchLine, IsGateLine, Spells}
+use Rattle.aiger_ascii.specs.Reading.{State, input_from, input_at, latch_from, latch_at, gate_from, gate_at, state_before, sections_at, file_at}
 use Rattle.aiger_ascii.proofs.DefineLemmas.{marked, AreFresh, fresh_join, marked-append, fresh_apart}
-use Rattle.aiger_ascii.proofs.ItemLemmas.{section_takes, input_form, IsLatchInRange, latch_form, IsGateInRange, gate_form}
+use Rattle.aiger_ascii.proofs.ItemLemmas.{section_takes, input_form, latch_form, gate_form}
 
 -- ---- what is read is spelled so
 
@@ -57,10 +59,6 @@ lists_of h inputs latches outputs bads constraints gates = record {
   outputs = outputs;
   gates = gates;
 }
-
-bind_then : {A B F P : Type 0} (r : Result A F) (f : A → Result B F) (y : B) → (r >>= f) ≡ Ok y → ((x : A) → r ≡ Ok x → f x ≡ Ok y → P) → P
-bind_then (Ok x) f y e k = k x refl e
-bind_then (Err d) f y e k = absurd cc
 
 -- the lists and states of the sections, one read behind the other
 record ReadsSections (size : ℕ) (h : Header) (bytes : List ℕ) (p : Parts) (tail : List ℕ) : Type 0 where
@@ -157,54 +155,16 @@ sections_once h bytes p tail t v twice =
     fresh_apart (h.vars + 1) (replicate (h.vars + 1) false) (definitions (netlist_of p)) (length-replicate (h.vars + 1) false) t.fresh (within_row h bytes p tail t)
     twice.one twice.other twice.apart twice.within (twice.one_is ∙ sym twice.other_is)
 
-bads_used : (vars : ℕ) (b : Bool) (outputs bads : List ℕ) → AllByRecursion (IsUsed vars) outputs → AllByRecursion (IsUsed vars) bads → AllByRecursion (IsUsed vars) (cond b outputs bads)
-bads_used vars true outputs bads g h = g
-bads_used vars false outputs bads g h = h
-
-uses_used : (h : Header) (bytes : List ℕ) (p : Parts) (tail : List ℕ) → TakesSections h bytes p tail → AllByRecursion (IsUsed h.vars) (uses p)
-uses_used h bytes p tail t =
-    let U = IsUsed h.vars in
-    let N = map (λ (k : Latch). k.next) p.latches in
-    let R0 = map (λ (g : AndGate). g.rhs0) p.gates in
-    let R1 = map (λ (g : AndGate). g.rhs1) p.gates in
-    let bads : AllByRecursion U p.bads = subst (λ (k : List ℕ). AllByRecursion U k) (sym t.properties) (bads_used h.vars (eqb h.bads 0) p.outputs t.bad_lits t.outputs.range t.bads.range) in
-    all_join U (N ++ p.outputs ++ p.bads ++ p.constraints ++ R0) R1
-    (all_join U (N ++ p.outputs ++ p.bads ++ p.constraints) R0
-    (all_join U (N ++ p.outputs ++ p.bads) p.constraints
-    (all_join U (N ++ p.outputs) p.bads
-    (all_join U N p.outputs (all_mapped (λ (k : Latch). k.next) (IsLatchInRange h.vars) U (λ k range. range.next) p.latches t.latches.range) t.outputs.range)
-    bads)
-    t.constraints.range)
-    (all_mapped (λ (g : AndGate). g.rhs0) (IsGateInRange h.vars) U (λ g range. range.rhs0) p.gates t.gates.range))
-    (all_mapped (λ (g : AndGate). g.rhs1) (IsGateInRange h.vars) U (λ g range. range.rhs1) p.gates t.gates.range)
-
--- the same of the lists' own number of variables
-record InRange (vars : ℕ) (p : Parts) : Type 0 where
-  small : vars < 2 ^ 31
-  inputs : AllByRecursion (IsNew vars) p.inputs
-  latches : AllByRecursion (λ (k : Latch). IsNew vars k.lit) p.latches
-  gates : AllByRecursion (λ (g : AndGate). IsNew vars g.lhs) p.gates
-  used : AllByRecursion (IsUsed vars) (uses p)
-
-in_range : (p : Parts) → InRange p.vars p → AreInRange p
-in_range p r = record {
-  small = r.small;
-  inputs = λ k l e. all_at (IsNew p.vars) p.inputs r.inputs k l e;
-  latches = λ k latch e. all_at (λ (x : Latch). IsNew p.vars x.lit) p.latches r.latches k latch e;
-  gates = λ k gate e. all_at (λ (x : AndGate). IsNew p.vars x.lhs) p.gates r.gates k gate e;
-  used = λ k l e. all_at (IsUsed p.vars) (uses p) r.used k l e;
-}
-
 pub sections_range : (h : Header) (bytes : List ℕ) (p : Parts) (tail : List ℕ) → TakesSections h bytes p tail → h.vars ≤ 500000 → AreInRange p
 sections_range h bytes p tail t few =
-    let ranges : InRange h.vars p = record {
-      small = omega arith;
+    range_of_lists h.vars p t.counts.vars (omega arith) (record {
       inputs = t.inputs.range;
-      latches = all_weaker (IsLatchInRange h.vars) (λ (k : Latch). IsNew h.vars k.lit) (λ k range. range.lit) p.latches t.latches.range;
-      gates = all_weaker (IsGateInRange h.vars) (λ (g : AndGate). IsNew h.vars g.lhs) (λ g range. range.lhs) p.gates t.gates.range;
-      used = uses_used h bytes p tail t;
-    } in
-    in_range p (subst (λ (k : ℕ). InRange k p) (sym t.counts.vars) ranges)
+      latches = t.latches.range;
+      outputs = t.outputs.range;
+      bads = properties_used h.vars h.bads p.bads p.outputs t.bad_lits t.properties t.outputs.range t.bads.range;
+      constraints = t.constraints.range;
+      gates = t.gates.range;
+    })
 
 -- ---- a whole file
 

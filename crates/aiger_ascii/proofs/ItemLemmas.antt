@@ -19,6 +19,7 @@ use Rattle.aiger_lines.specs.declared.refusal.ReadRefusal.TheVariants as refusal
 use Rattle.aiger_lines.specs.Lines.{AreLines, IsLiteralLine, IsUsed, TakesItem, TakesItems, reset_number, HasReset}
 use Rattle.aiger_lines.specs.Reading.{place, numbers_at, one_number, used_at, reset_at}
 use Rattle.aiger_lines.proofs.SectionLemmas.{items_from_chain, numbers_take, numbers_again, one_takes, used_takes, used_again, reset_takes, reset_again}
+use Rattle.aiger_lines.proofs.PartsLemmas.{IsLatchInRange, IsGateInRange}
 use Rattle.aiger_ascii.specs.Grammar.{IsLatchLine, IsGateLine}
 use Rattle.aiger_ascii.specs.Reading.{State, new_at, define_at, defining_at, input_from, latch_numbers, latch_from, gate_numbers, gate_from}
 use Rattle.aiger_ascii.proofs.DefineLemmas.{marked, AreFresh}
@@ -134,11 +135,6 @@ input_form vars = record {
 
 -- ---- latches
 
--- a latch's literals are in range
-pub record IsLatchInRange (vars : ℕ) (k : Latch) : Type 0 where
-  pub lit : IsNew vars k.lit
-  pub next : IsUsed vars k.next
-
 -- the numbers of a latch line: a third one, or 0 in its place
 Spelled : List ℕ → ℕ × ℕ × ℕ → Type 0
 Spelled ns n = (ns ≡ n.0 ∷ n.1 ∷ n.2 ∷ []) ⊎ ((ns ≡ n.0 ∷ n.1 ∷ []) × (n.2 ≡ 0))
@@ -193,12 +189,6 @@ pub latch_form : (vars : ℕ) → IsForm (latch_from vars) IsLatchLine (IsLatchI
 latch_form vars = record { takes = latch_takes vars; again = latch_again vars }
 
 -- ---- gates
-
--- a gate's literals are in range
-pub record IsGateInRange (vars : ℕ) (g : AndGate) : Type 0 where
-  pub lhs : IsNew vars g.lhs
-  pub rhs0 : IsUsed vars g.rhs0
-  pub rhs1 : IsUsed vars g.rhs1
 
 gate_numbers_take : (at : ℕ) (ns : List ℕ) (n : ℕ × ℕ × ℕ) → gate_numbers at ns ≡ Ok n → ns ≡ n.0 ∷ n.1 ∷ n.2 ∷ []
 gate_numbers_take at [] n e = absurd cc

@@ -5,10 +5,9 @@ use Rattle.aig_model.specs.declared.netlist.Parts.{Parts}
 use Rattle.aig_model.specs.declared.build.BuildRefusal.{BuildRefusal}
 use Rattle.aig_model.specs.declared.build.BuildRefusal.TheVariants as build
 use Rattle.aiger_lines.specs.declared.refusal.ReadRefusal.{ReadRefusal}
-use Rattle.aiger_lines.specs.declared.refusal.ReadRefusal.TheVariants.{Undefined, Cycle, Symbol}
-use Rattle.aiger_lines.specs.Tail.{HasBadLine}
-use Rattle.aiger_lines.specs.Reading.{place}
-use Rattle.aiger_ascii.specs.Reading.{File, file_at}
+use Rattle.aiger_lines.specs.declared.refusal.ReadRefusal.TheVariants.{Undefined, Cycle}
+use Rattle.aiger_lines.specs.Files.{IsTailFault}
+use Rattle.aiger_ascii.specs.Reading.{file_at}
 
 -- what may come behind lines that were read against each other
 abbrev pub IsLate : BuildRefusal → Type 0
@@ -26,11 +25,7 @@ Becomes (build.Cycle v) r = r ≡ Cycle v
 abbrev pub IsBuildFault : Parts → ReadRefusal → Type 0
 IsBuildFault p r = (b : BuildRefusal) × IsRefusal p b × Becomes b r
 
--- the lists make a design, and behind them stands a line that is not in form
-abbrev pub IsTailFault : ℕ → File → ReadRefusal → Type 0
-IsTailFault size f r = MakesDesign f.parts × (rest : List ℕ) × HasBadLine f.head f.tail rest × (r ≡ Symbol (place size rest))
-
--- The first fault that is met up to the gates; where there is none, what is wrong with the lists; and where nothing is, with
--- a line behind them.
+-- The first fault that is met up to the gates; where there is none, what is wrong with the lists; and where nothing is, so
+-- that they make a design, with a line behind them.
 abbrev pub IsFirstFault : List ℕ → ReadRefusal → Type 0
-IsFirstFault bytes r = MatchResult (file_at bytes) (λ f. IsBuildFault f.parts r ⊎ IsTailFault (length bytes) f r) (λ fault. r ≡ fault)
+IsFirstFault bytes r = MatchResult (file_at bytes) (λ f. IsBuildFault f.parts r ⊎ (MakesDesign f.parts × IsTailFault (length bytes) f r)) (λ fault. r ≡ fault)

@@ -12,6 +12,7 @@ use Rattle.aiger_lines.specs.declared.sizes.Header.{Header}
 use Rattle.aiger_lines.specs.Header.{IsHeaderLine, IsWithinLimits}
 use Rattle.aiger_lines.specs.Lines.{AreLines, IsLiteralLine, HasReset}
 use Rattle.aiger_lines.specs.Tail.{IsTail}
+use Rattle.aiger_lines.specs.Files.{Counts}
 
 -- a latch's literal, the literal of its next state, and its reset
 abbrev pub IsLatchLine : List ℕ → Latch → Type 0
@@ -34,16 +35,6 @@ pub record Sections : Type 0 where
 
 abbrev pub text_of : Sections → List ℕ
 text_of s = s.header ++ s.inputs ++ s.latches ++ s.outputs ++ s.bads ++ s.constraints ++ s.gates ++ s.tail
-
--- the header counts the items of each section
-pub record Counts (h : Header) (p : Parts) (bads : List ℕ) : Type 0 where
-  pub vars : p.vars ≡ h.vars
-  pub inputs : length p.inputs ≡ h.inputs
-  pub latches : length p.latches ≡ h.latches
-  pub outputs : length p.outputs ≡ h.outputs
-  pub bad_lines : length bads ≡ h.bads
-  pub constraints : length p.constraints ≡ h.constraints
-  pub gates : length p.gates ≡ h.gates
 
 -- each section has a line for each of its items
 pub record AreSpelled (h : Header) (p : Parts) (bads : List ℕ) (s : Sections) : Type 0 where

@@ -11,6 +11,7 @@ use Rattle.aiger_lines.specs.declared.sizes.Header.{Header}
 use Rattle.aiger_lines.specs.declared.refusal.ReadRefusal.{ReadRefusal}
 use Rattle.aiger_lines.specs.declared.refusal.ReadRefusal.TheVariants as refusal
 use Rattle.aiger_lines.specs.Reading.{place, numbers_at, one_number, used_at, reset_at, literal_at, header_at}
+use Rattle.aiger_lines.specs.Files.{File}
 
 -- for each variable whether it is defined so far, and the bytes that are left
 pub record State : Type 0 where
@@ -104,12 +105,6 @@ sections_at size h rest = do
     },
     gates.1.rest,
   )
-
--- a file up to its gates: its sizes and lists, and what follows them
-pub record File : Type 0 where
-  pub head : Header
-  pub parts : Parts
-  pub tail : List ℕ
 
 unfoldable pub file_at : List ℕ → Result File ReadRefusal
 file_at bytes = do

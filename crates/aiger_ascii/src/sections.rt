@@ -1,6 +1,6 @@
 //! The sections of a file, one after another.
 
-ghost use Rattle.std.specs.Prelude.{◌≡◌, ◌^◌, ◌<◌, ◌==◌, if◌then◌else◌, IfOk, take};
+ghost use Rattle.std.specs.Prelude.{◌^◌, ◌<◌};
 ghost use Rattle.ja_text.specs.Reading.{Gives};
 ghost use Rattle.aiger_ascii.specs.Reading.{sections_at};
 
@@ -8,30 +8,9 @@ use crate::gates::gates;
 use crate::inputs::inputs;
 use crate::latches::latches;
 use aig_model::Parts;
-use aiger_lines::{Header, ReadRefusal, literals};
-use ja_base::{Lits, Memory, OrMemory, Row};
+use aiger_lines::{Header, ReadRefusal, literals, properties};
+use ja_base::{OrMemory, Row};
 use std::alloc::Global;
-
-fn copied(alloc: Global, lits: &Lits) -> Result<Lits, Memory>
-    ensures { IfOk result (λ copy. copy ≡ lits.now) }
-{
-    let mut copy = Lits::new(alloc);
-    for lit in lits.as_slice() {
-        copy.push(*lit)?;
-    }
-    Ok(copy)
-}
-
-/// The outputs are the properties where no bads are counted.
-fn properties(alloc: Global, count: u64, bads: Lits, outputs: &Lits) -> Result<Lits, Memory>
-    ensures { IfOk result (λ ps. ps ≡ (if count == 0 then outputs.now else bads)) }
-{
-    if count == 0 {
-        copied(alloc, outputs)
-    } else {
-        Ok(bads)
-    }
-}
 
 #[tactic(auto, unfolding(crate::specs::Reading::sections_at))]
 pub fn sections(

@@ -2,3 +2,4 @@ pub mod ListLemmas
 pub mod TailLemmas
 pub mod HeaderLemmas
 pub mod SectionLemmas
+pub mod PartsLemmas

@@ -8,6 +8,7 @@ mod header;
 mod laws;
 mod lines;
 mod refusal;
+mod sections;
 mod sizes;
 mod tail;
 
@@ -16,6 +17,7 @@ pub use header::read_header;
 pub use laws::{header_is_exact, literals_are_exact, reset_is_exact, tail_is_exact};
 pub use lines::{literal, literals, numbers, one_number, place, reset, used_literal};
 pub use refusal::{Large, ReadRefusal};
+pub use sections::properties;
 pub use sizes::Header;
 pub use tail::bad_line;
 

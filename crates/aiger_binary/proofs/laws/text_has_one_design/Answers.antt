@@ -1,0 +1,5 @@
+use Rattle.aiger_binary.proofs.FaultLemmas.{one_circuit}
+use Rattle.aiger_binary.proofs.laws.text_has_one_design.Goals as goal
+
+pub returns : goal.returns
+returns c = one_circuit

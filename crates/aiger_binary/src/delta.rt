@@ -1,0 +1,43 @@
+//! A number in groups of seven bits.
+
+ghost use Rattle.std.specs.Prelude.{◌≡◌, [], ◌∷◌, MatchOption};
+ghost use Rattle.aiger_lines.specs.Reading.{Reads};
+ghost use Rattle.aiger_binary.specs.Reading.{delta_at};
+
+use aiger_lines::{ReadRefusal, place};
+
+/// The byte at the front, and what follows it.
+fn first(bytes: &[u8]) -> Option<(u8, &[u8])>
+    ensures { MatchOption result (bytes.now ≡ []) (λ x. bytes.now ≡ x.0 ∷ x.1.now) }
+{
+    match bytes {
+        [byte, rest @ ..] => Some((*byte, rest)),
+        [] => None,
+    }
+}
+
+const MOST_BYTES: usize = 5;
+
+/// The delta at the front, in a file of so many bytes, and what follows it.
+#[tactic(auto, unfolding(crate::specs::Reading::delta_at))]
+pub fn delta(size: usize, bytes: &[u8]) -> Result<(u64, &[u8]), ReadRefusal>
+    ensures { Reads (λ x. (x.0, x.1.now)) result (delta_at size bytes.now) }
+{
+    let mut number = 0;
+    let mut scale = 1;
+    let mut rest = bytes;
+    for _ in 0..MOST_BYTES {
+        let Some((byte, after)) = first(rest) else {
+            return Err(ReadRefusal::Short { at: size });
+        };
+        number += u64::from(byte % 128) * scale;
+        if byte < 128 {
+            return Ok((number, after));
+        }
+        scale *= 128;
+        rest = after;
+    }
+    Err(ReadRefusal::Line {
+        at: place(size, bytes),
+    })
+}

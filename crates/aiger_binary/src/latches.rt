@@ -1,0 +1,64 @@
+ghost use Rattle.std.specs.Prelude.{◌≡◌, ◌+◌, ◌*◌, ◌^◌, ◌<◌};
+ghost use Rattle.ja_text.specs.Reading.{Gives};
+ghost use Rattle.ja_text.specs.Repeated.{repeated};
+ghost use Rattle.aiger_lines.specs.Reading.{Reads};
+ghost use Rattle.aiger_binary.specs.Reading.{latch_numbers, latch_from, latch_at};
+
+use aig_model::{Latch, Latches};
+use aiger_lines::{ReadRefusal, numbers, place, reset, used_literal};
+use ja_base::{Lit, OrMemory};
+use ja_text::Numbers;
+use std::alloc::Global;
+
+/// The literal of a latch's next state, and its reset, which is 0 where it is left out.
+fn split(at: usize, numbers: &Numbers) -> Result<(u64, u64), ReadRefusal>
+    ensures { Reads (λ x. x) result (latch_numbers at numbers.now) }
+{
+    match numbers.as_slice() {
+        [next] => Ok((*next, 0)),
+        [next, reset] => Ok((*next, *reset)),
+        _ => Err(ReadRefusal::Line { at }),
+    }
+}
+
+#[tactic(auto, unfolding(crate::specs::Reading::latch_from))]
+fn latch_of(vars: u32, lit: Lit, at: usize, numbers: &Numbers) -> Result<Latch, ReadRefusal>
+    requires { vars < 2 ^ 31 }
+    ensures { Reads (λ k. k) result (latch_from vars lit at numbers.now) }
+{
+    let (next, number) = split(at, numbers)?;
+    let next = used_literal(vars, at, next)?;
+    let reset = reset(lit, at, number)?;
+    Ok(Latch { lit, next, reset })
+}
+
+#[tactic(auto, unfolding(crate::specs::Reading::latch_at))]
+fn latch(vars: u32, lit: Lit, size: usize, rest: &mut &[u8]) -> Result<Latch, ReadRefusal>
+    requires { vars < 2 ^ 31 }
+    ensures { Reads (λ k. (k, record { lit = lit + 2; rest = rest.new.now })) result (latch_at vars size (record { lit = lit; rest = rest.old.now })) }
+{
+    let at = place(size, *rest);
+    let numbers = numbers(size, rest)?;
+    latch_of(vars, lit, at, &numbers)
+}
+
+/// The latches of so many lines, whose variables begin with `first`.
+pub fn latches(
+    alloc: Global,
+    vars: u32,
+    first: u32,
+    count: u32,
+    size: usize,
+    rest: &mut &[u8],
+) -> Result<Latches, OrMemory<ReadRefusal>>
+    requires small { vars < 2 ^ 31 }
+    requires fit { first + count < 2 ^ 30 }
+    ensures { Gives (λ ks. (ks, record { lit = 2 * (first + count); rest = rest.new.now })) result (repeated (latch_at vars size) count (record { lit = 2 * first; rest = rest.old.now })) }
+{
+    let mut latches = Latches::new(alloc);
+    for index in 0..count {
+        let lit = Lit(2 * (first + index));
+        latches.push(latch(vars, lit, size, rest)?)?;
+    }
+    Ok(latches)
+}

@@ -1,0 +1,70 @@
+//! Bytes to a design.
+
+ghost use Rattle.std.specs.Prelude.{◌≡◌, List, IfOk};
+ghost use Rattle.ja_base.specs.Answers.{IfRefused};
+ghost use Rattle.ja_base.specs.Circuit.{Circuit};
+ghost use Rattle.ja_text.specs.Reading.{Gives};
+ghost use Rattle.aig_model.specs.Netlist.{circuit};
+ghost use Rattle.aig_model.specs.Refusals.{netlist_of, AreInRange, MakesDesign};
+ghost use Rattle.aiger_binary.specs.Grammar.{IsBinaryDesign};
+ghost use Rattle.aiger_binary.specs.Reading.{file_at};
+ghost use Rattle.aiger_binary.specs.FirstFault.{IsFirstFault};
+
+use crate::sections::sections;
+use aig_model::{Design, Parts};
+use aiger_lines::{Form, Header, ReadRefusal, bad_line, place, read_header};
+use ja_base::{Memory, OrMemory};
+use std::alloc::Global;
+
+/// The sizes and the lists of a file. What is left follows the gates.
+#[tactic(auto, unfolding(crate::specs::Reading::file_at))]
+fn file(alloc: Global, rest: &mut &[u8]) -> Result<(Header, Parts), OrMemory<ReadRefusal>>
+    ensures { Gives (λ x. record { head = x.0; parts = x.1; tail = rest.new.now }) result (file_at rest.old.now) }
+{
+    let size = rest.len();
+    let header = read_header(Form::Binary, rest)?;
+    let parts = sections(alloc, size, &header, rest)?;
+    Ok((header, parts))
+}
+
+/// Lists whose variables are in order are never refused.
+fn design(alloc: Global, parts: Parts) -> Result<Design, Memory>
+    requires range { AreInRange parts }
+    requires sound { MakesDesign parts }
+    ensures { IfOk result (λ d. circuit d ≡ circuit (netlist_of parts)) }
+{
+    match Design::build(alloc, parts) {
+        Ok(design) => Ok(design),
+        Err(OrMemory::Refused(_)) => unreachable!(),
+        Err(OrMemory::Memory) => Err(Memory),
+    }
+}
+
+/// The design of a file, or its first fault.
+fn whole(alloc: Global, bytes: &[u8]) -> Result<Design, OrMemory<ReadRefusal>>
+    ensures found { IfOk result (λ d. IsBinaryDesign bytes.now (circuit d)) }
+    ensures refused { IfRefused result (IsFirstFault bytes.now) }
+{
+    let mut rest = bytes;
+    let (header, parts) = file(alloc, &mut rest)?;
+    let design = design(alloc, parts)?;
+    match bad_line(&header, rest) {
+        None => Ok(design),
+        Some(line) => Err(OrMemory::Refused(ReadRefusal::Symbol {
+            at: place(bytes.len(), line),
+        })),
+    }
+}
+
+/// The design that the bytes spell.
+pub fn read_binary(alloc: Global, bytes: &[u8]) -> Result<Design, OrMemory<ReadRefusal>>
+    // What is read is spelled so.
+    ensures found { IfOk result (λ d. IsBinaryDesign bytes.now (circuit d)) }
+    // What is spelled so is read, unless memory runs out.
+    ensures only { (c : Circuit) → IsBinaryDesign bytes.now c → IfOk result (λ d. circuit d ≡ c) }
+    ensures spelled_is_not_refused { (c : Circuit) → IsBinaryDesign bytes.now c → IfRefused result (λ _. ⊥) }
+    // Which refusal it is.
+    ensures refused { IfRefused result (IsFirstFault bytes.now) }
+{
+    whole(alloc, bytes)
+}
