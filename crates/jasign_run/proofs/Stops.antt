@@ -1,4 +1,4 @@
--- Where the last file gives nothing, that is what `confirm` comes to.
+-- Where a file behind the first gives nothing, that is what `confirm` comes to.
 use Rattle.std.proofs.Common.{◌≡◌, ℕ, ◌+◌, ◌≤◌, ◌⊎◌, inl, inr, List, Option, Some, None, refl, sym, arith}
 use Rattle.ja_base.specs.Runs.{Trace}
 use Rattle.ja_outside.specs.Faults.{Rose}
@@ -6,7 +6,7 @@ use Rattle.aig_model.specs.Netlist.{Netlist}
 use Rattle.jasign_run.specs.declared.outcome.Outcome.{Outcome}
 use Rattle.jasign_run.specs.declared.outcome.Outcome.TheVariants.{Replayed, DesignRefused, StimulusRefused, ExpectRefused, Usage, Outside, Memory}
 use Rattle.jasign_run.specs.Words.{Names}
-use Rattle.jasign_run.specs.Meaning.{Held, IsDesignFile, IsStimulusFile, FailsToRead, NoExpectations, NothingExpected, StopsAtExpectations, Confirms}
+use Rattle.jasign_run.specs.Meaning.{Held, IsDesignFile, IsStimulusFile, FailsToRead, NoStimulus, NothingExpected, StopsAtStimulus, StopsAtExpectations, Confirms}
 
 -- a count that rose in the last part rose in the whole
 rose_before : (before between after : ℕ) → before ≤ between → Rose between after → Rose before after
@@ -15,6 +15,22 @@ rose_before before between after earlier rose = omega (arith, earlier, rose)
 fails_before : (held : Held) (before between after : ℕ) (name : List ℕ) → before ≤ between → FailsToRead held between after name → FailsToRead held before after name
 fails_before held before between after name earlier fails =
     elim fails [ inl rose ↦ inl (rose_before before between after earlier rose) | inr lacks ↦ inr lacks ]
+
+pub stops_at_stimulus : (held : Held) (before between after : ℕ) (names : Names) (d : Netlist) (o : Outcome)
+    → before ≤ between → IsDesignFile held names.design d → NoStimulus held between after names.stim d o → Confirms held before after names o
+stops_at_stimulus held before between after names d o earlier design stops = by_outcome o stops
+  where
+    at : (o : Outcome) → NoStimulus held before after names.stim d o → StopsAtStimulus held before after names o
+    at o stops = record { netlist = d; design_file = design; stops = stops }
+
+    by_outcome : (o : Outcome) → NoStimulus held between after names.stim d o → Confirms held before after names o
+    by_outcome (StimulusRefused refusal) refuses = at (StimulusRefused refusal) refuses
+    by_outcome Outside fails = inr (inl (at Outside (fails_before held before between after names.stim earlier fails)))
+    by_outcome Memory wants = tt
+    by_outcome (Replayed verdict p steps) wrong = absurd wrong
+    by_outcome (DesignRefused refusal) wrong = absurd wrong
+    by_outcome (ExpectRefused refusal) wrong = absurd wrong
+    by_outcome Usage wrong = absurd wrong
 
 pub stops_at_expectations : (held : Held) (before between after : ℕ) (names : Names) (d : Netlist) (prop : ℕ) (m : Trace) (o : Outcome)
     → before ≤ between → IsDesignFile held names.design d → IsStimulusFile held names.stim d prop m

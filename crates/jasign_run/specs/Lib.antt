@@ -1,3 +1,4 @@
+pub mod Designs
 pub mod Words
 pub mod Lines
 pub mod Meaning

@@ -12,8 +12,6 @@ use Rattle.aig_model.specs.Task.{VerificationTask, problem}
 use Rattle.aiger_lines.specs.declared.refusal.Large.TheVariants.{File}
 use Rattle.aiger_lines.specs.declared.refusal.ReadRefusal.{ReadRefusal}
 use Rattle.aiger_lines.specs.declared.refusal.ReadRefusal.TheVariants as design_refusals
-use Rattle.aiger_ascii.specs.Grammar.{IsAsciiDesign}
-use Rattle.aiger_ascii.specs.FirstFault as ascii
 use Rattle.expect_file.specs.ExpectationsText.{IsExpectations}
 use Rattle.expect_file.specs.FirstFault as expect
 use Rattle.expect_file.specs.declared.refusal.ExpectRefusal.{ExpectRefusal}
@@ -26,6 +24,8 @@ use Rattle.local_stim.specs.declared.refusal.StimRefusal.TheVariants as stimulus
 use Rattle.local_stim.specs.declared.verdict.Confirm.{Confirm}
 use Rattle.jasign_run.specs.declared.outcome.Outcome.{Outcome}
 use Rattle.jasign_run.specs.declared.outcome.Outcome.TheVariants.{Replayed, DesignRefused, StimulusRefused, ExpectRefused, Usage, Outside, Memory}
+use Rattle.jasign_run.specs.Designs.{IsDesign}
+use Rattle.jasign_run.specs.Designs as design
 use Rattle.jasign_run.specs.Lines.{outcome_line, outcome_status}
 use Rattle.jasign_run.specs.Words.{Names, confirm_names}
 
@@ -42,14 +42,14 @@ pub record IsRead (held : Held) (name : List ℕ) (most : ℕ) (bytes : List ℕ
 pub record IsDesignFile (held : Held) (name : List ℕ) (d : Netlist) : Type 0 where
   pub bytes : List ℕ
   pub read : IsRead held name 67108864 bytes
-  pub spells : IsAsciiDesign bytes (circuit d)
+  pub spells : IsDesign bytes (circuit d)
   pub sound : IsSound d
 
 -- the file is no design, and this is the first rule that it breaks
 pub record RefusesDesign (held : Held) (name : List ℕ) (refusal : ReadRefusal) : Type 0 where
   pub bytes : List ℕ
   pub read : IsRead held name 67108864 bytes
-  pub first : ascii.IsFirstFault bytes refusal
+  pub first : design.IsFirstFault bytes refusal
 
 -- the file is a stimulus for the design: of this property, with these rows
 pub record IsStimulusFile (held : Held) (name : List ℕ) (d : Netlist) (prop : ℕ) (m : Trace) : Type 0 where

@@ -4,9 +4,9 @@ ghost use Rattle.std.specs.Prelude.{◌≡◌, ◌≤◌, length, replicate, tru
 ghost use Rattle.ja_base.specs.Runs.{Trace};
 ghost use Rattle.jasign_run.specs.Meaning.{IsDesignFile, NoDesign, IsStimulusFile, NoStimulus, IsExpectFile, NoExpectations, IsExpected, NothingExpected};
 
+use crate::designs::read_design;
 use crate::outcome::Outcome;
 use aig_model::{Design, Expect, Stimulus};
-use aiger_ascii::read_ascii;
 use aiger_lines::{Large, ReadRefusal};
 use expect_file::{ExpectRefusal, read_expect};
 use ja_base::{Memory, OrMemory};
@@ -29,7 +29,7 @@ pub fn design_of<F: Shelf>(alloc: Global, shelf: &mut F, name: &str) -> Result<D
         (λ o. NoDesign (F.holds shelf.old) (F.faults shelf.old) (F.faults shelf.new) name.now o) }
 {
     match read_whole(alloc, shelf, name, MOST) {
-        Whole::Bytes(bytes) => match read_ascii(alloc, bytes.as_slice()) {
+        Whole::Bytes(bytes) => match read_design(alloc, bytes.as_slice()) {
             Ok(design) => {
                 let _ = design.vars();
                 Ok(design)

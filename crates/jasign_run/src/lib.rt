@@ -3,6 +3,7 @@
 #![tactic(auto)]
 
 mod confirm;
+mod designs;
 mod ending;
 mod files;
 mod lines;

@@ -17,6 +17,9 @@ const TWO_LATCHES: &[u8] = b"aag 2 0 2 0 0 2\n2 1\n4 2\n2\n4\n";
 
 const RING: &[u8] = b"aag 6 0 3 0 3 3\n2 6 1\n4 2\n6 4\n8\n10\n12\n8 4 2\n10 6 4\n12 6 2\n";
 
+/// The same ring in the binary form.
+const BINARY_RING: &[u8] = b"aig 6 0 3 0 3 3\n6 1\n2\n4\n8\n10\n12\n\x04\x02\x04\x02\x06\x04";
+
 const ARBITER: &[u8] =
     b"aag 6 2 2 1 2 2\n2\n4\n6 2\n8 10\n8\n12\n8\n10 4 3\n12 8 6\ni0 req0\ni1 req1\nl0 gnt0\nl1 gnt1\no0 grant\nb0 mutex\nb1 never\nc\nwritten by a generator\n";
 
@@ -26,7 +29,7 @@ const OUTPUTS: &[u8] = b"aag 1 0 1 2 0\n2 3\n2\n3\n";
 
 const FREE: &[u8] = b"aag 1 0 1 0 0 1\n2 2 2\n2\n";
 
-const REPLAYS: [Case; 18] = [
+const REPLAYS: [Case; 20] = [
     Case {
         design: TWO_LATCHES,
         stim: b"1\nb0\n00\n\n\n.\n",
@@ -135,9 +138,21 @@ const REPLAYS: [Case; 18] = [
         line: b"confirmed b0 steps 2\n",
         status: 0,
     },
+    Case {
+        design: BINARY_RING,
+        stim: b"1\nb0\n000\n\n.\n",
+        line: b"not confirmed: start latch 0\n",
+        status: 1,
+    },
+    Case {
+        design: BINARY_RING,
+        stim: b"1\nb2\n100\n\n\n\n.\n",
+        line: b"not confirmed: not bad\n",
+        status: 1,
+    },
 ];
 
-const REFUSALS: [Case; 43] = [
+const REFUSALS: [Case; 51] = [
     Case {
         design: b"",
         stim: b"",
@@ -394,6 +409,54 @@ const REFUSALS: [Case; 43] = [
         design: TWO_LATCHES,
         stim: b"1\nb0\n00\n\n",
         line: b"fault: stimulus 4 short line 5\n",
+        status: 3,
+    },
+    Case {
+        design: b"aig 6 0 3 0 3 3\n6 1\n2\n4\n8\n10\n12\n\x00\x02\x04\x02\x06\x04",
+        stim: b"",
+        line: b"fault: design 11 order at 32\n",
+        status: 3,
+    },
+    Case {
+        design: b"aig 6 0 3 0 3 3\n6 1\n2\n4\n8\n10\n12\n\x04\x02\x04",
+        stim: b"",
+        line: b"fault: design 10 short at 35\n",
+        status: 3,
+    },
+    Case {
+        design: b"aig 6 0 3 0 3 3\n6 1\n2\n4\n8\n10\n12\n\x04\x02\x04\x02\x06\x04x",
+        stim: b"",
+        line: b"fault: design 9 symbol at 38\n",
+        status: 3,
+    },
+    Case {
+        design: b"aig 6 0 3 0 3 3\n6 1\n2\n4\n8\n10\n12\n\x84\x80\x80\x80\x80",
+        stim: b"",
+        line: b"fault: design 4 line at 32\n",
+        status: 3,
+    },
+    Case {
+        design: b"aig",
+        stim: b"",
+        line: b"fault: design 1 header at 0\n",
+        status: 3,
+    },
+    Case {
+        design: b"aig 7 0 3 0 3 3\n",
+        stim: b"",
+        line: b"fault: design 1 header at 0\n",
+        status: 3,
+    },
+    Case {
+        design: b"aig 3 0 3\n",
+        stim: b"",
+        line: b"fault: design 1 header at 0\n",
+        status: 3,
+    },
+    Case {
+        design: b"aig 1 0 1 0 0\n4\n",
+        stim: b"",
+        line: b"fault: design 5 range at 14\n",
         status: 3,
     },
 ];
