@@ -25,6 +25,30 @@ def design(inputs, latches, gates, order="forward", seed=1):
     return "\n".join(lines + body) + "\n"
 
 
+def delta(number):
+    """Groups of seven bits, the least significant first; each byte but the last has its top bit set."""
+    groups = []
+    while number > 127:
+        groups.append(number % 128 + 128)
+        number //= 128
+    return bytes(groups + [number])
+
+
+def binary(inputs, latches, gates, seed=3):
+    """The binary form of a graph as `design` makes it."""
+    chance = random.Random(seed)
+    first_gate = 1 + inputs + latches
+    top = inputs + latches + gates
+    lines = [f"aig {top} {inputs} {latches} 0 {gates} 2"]
+    lines += [str(2 * (top - at % max(gates, 1)) + at % 2) for at in range(latches)]
+    lines += [str(2 * top), str(2 * (top - 1) + 1)]
+    body = []
+    for var in range(first_gate, first_gate + gates):
+        right, left = sorted(2 * chance.randrange(1, var) + chance.randrange(2) for _ in range(2))
+        body += [delta(2 * var - left), delta(left - right)]
+    return "\n".join(lines).encode() + b"\n" + b"".join(body)
+
+
 def chain(gates, cycle=False):
     """One input and a chain of gates, the last one first; with a cycle the first gate reads the last one."""
     top = gates + 1
@@ -61,6 +85,8 @@ def main(folder):
     }
     for name, text in texts.items():
         (folder / name).write_text(text)
+    (folder / "binary.aag").write_bytes(binary(50_000, 50_000, 400_000))
+    (folder / "binary.stim").write_text(stimulus(50_000, 50_000, 1))
 
 
 if __name__ == "__main__":

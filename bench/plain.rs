@@ -1,4 +1,4 @@
-//! The yardstick: `confirm DESIGN STIM` as plain Rust over `Vec`s, with the same checks and the same answers, and no proof.
+//! The yardstick: `confirm DESIGN STIM [EXPECT]` as plain Rust over `Vec`s, with the same checks and the same answers, and no proof.
 //! Built by `bench/run` with `rustc -O`.
 
 use std::io::Write;
@@ -70,9 +70,9 @@ impl<'a> Reader<'a> {
     }
 }
 
-fn header(reader: &mut Reader) -> Result<Header, String> {
+fn header(reader: &mut Reader, binary: bool) -> Result<Header, String> {
     let fault = || "1 header at 0".to_string();
-    if !reader.bytes.starts_with(b"aag ") {
+    if !reader.bytes.starts_with(if binary { b"aig " } else { b"aag " }) {
         return Err(fault());
     }
     reader.at = 4;
@@ -87,7 +87,8 @@ fn header(reader: &mut Reader) -> Result<Header, String> {
     if justice > 0 || fairness > 0 {
         return Err("3 liveness".into());
     }
-    if (vars as u128) < inputs as u128 + latches as u128 + gates as u128 {
+    let sum = inputs as u128 + latches as u128 + gates as u128;
+    if (vars as u128) < sum || (binary && vars as u128 != sum) {
         return Err(fault());
     }
     if (if bads == 0 { outputs } else { bads }) > 20_000 {
@@ -163,6 +164,74 @@ fn gates(reader: &mut Reader, count: u64, vars: u64, seen: &mut Seen) -> Result<
     Ok(found)
 }
 
+/// The latch lines of the binary form, where variables come in order.
+fn binary_latches(reader: &mut Reader, count: u64, vars: u64, first: usize) -> Result<Vec<Latch>, String> {
+    let mut found = Vec::new();
+    for var in first..first + count as usize {
+        let at = reader.at;
+        let (row, numbers) = reader.line()?;
+        if numbers != 1 && numbers != 2 {
+            return Err(place("4 line", at));
+        }
+        let [next, reset, ..] = row;
+        if next > 2 * vars + 1 || !(reset < 2 || reset == 2 * var as u64) {
+            return Err(place("5 range", at));
+        }
+        let reset = if reset < 2 { Some(reset == 1) } else { None };
+        found.push(Latch { var, next: next as usize, reset });
+    }
+    Ok(found)
+}
+
+/// The literal that is below another one by a delta of one to five bytes.
+fn below(reader: &mut Reader, above: usize, least: usize) -> Result<usize, String> {
+    let at = reader.at;
+    let mut delta = 0;
+    for group in 0..5 {
+        let Some(byte) = reader.bytes.get(reader.at) else {
+            return Err(place("10 short", reader.bytes.len()));
+        };
+        reader.at += 1;
+        delta |= ((byte & 127) as usize) << (7 * group);
+        if *byte < 128 {
+            return if delta < least || delta > above {
+                Err(place("11 order", at))
+            } else {
+                Ok(above - delta)
+            };
+        }
+    }
+    Err(place("4 line", at))
+}
+
+fn binary_gates(reader: &mut Reader, count: u64, first: usize) -> Result<Vec<[usize; 3]>, String> {
+    let mut found = Vec::new();
+    for var in first..first + count as usize {
+        let left = below(reader, 2 * var, 1)?;
+        let right = below(reader, left, 0)?;
+        found.push([var, left, right]);
+    }
+    Ok(found)
+}
+
+fn read_binary(bytes: &[u8]) -> Result<Design, String> {
+    if bytes.len() > 67_108_864 {
+        return Err("2 too large file".into());
+    }
+    let mut reader = Reader { bytes, at: 0 };
+    let head = header(&mut reader, true)?;
+    let [vars, input_count, latch_count, output_count, gate_count, bad_count, constraint_count, ..] = head.0;
+    let inputs: Vec<usize> = (1..=input_count as usize).collect();
+    let latches = binary_latches(&mut reader, latch_count, vars, inputs.len() + 1)?;
+    let outputs = literals(&mut reader, output_count, vars)?;
+    let bads = literals(&mut reader, bad_count, vars)?;
+    let constraints = literals(&mut reader, constraint_count, vars)?;
+    let gates = binary_gates(&mut reader, gate_count, inputs.len() + latches.len() + 1)?;
+    symbols(&mut reader, &head)?;
+    let bads = if bad_count == 0 { outputs } else { bads };
+    Ok(Design { vars: vars as usize, inputs, latches, bads, constraints, gates })
+}
+
 /// The gates with right sides first, or the least gate from which a cycle can be reached.
 fn ordered(gates: Vec<[usize; 3]>, vars: usize) -> Result<Vec<[usize; 3]>, String> {
     let mut gate_of = vec![usize::MAX; vars + 1];
@@ -236,11 +305,14 @@ fn symbols(reader: &mut Reader, header: &Header) -> Result<(), String> {
 }
 
 fn read_design(bytes: &[u8]) -> Result<Design, String> {
+    if bytes.starts_with(b"aig") {
+        return read_binary(bytes);
+    }
     if bytes.len() > 67_108_864 {
         return Err("2 too large file".into());
     }
     let mut reader = Reader { bytes, at: 0 };
-    let head = header(&mut reader)?;
+    let head = header(&mut reader, false)?;
     let [vars, input_count, latch_count, output_count, gate_count, bad_count, constraint_count, ..] = head.0;
     let mut seen = Seen(vec![false; vars as usize + 1]);
     let mut inputs = Vec::new();
@@ -335,7 +407,43 @@ fn read_stimulus(bytes: &[u8], design: &Design) -> Result<Stimulus, String> {
     }
 }
 
-fn confirm(design: &Design, (prop, first, rows): &Stimulus) -> (String, i32) {
+/// For each property whether it is expected to hold.
+fn read_expectations(bytes: &[u8], design: &Design) -> Result<Vec<bool>, String> {
+    if bytes.len() > 4_194_304 {
+        return Err("4 too large".into());
+    }
+    let mut lines = bytes.split(|b| *b == b'\n');
+    if lines.next() != Some(b"expect 1") {
+        return Err("1 line line 1".into());
+    }
+    let mut expected = vec![true; design.bads.len()];
+    let mut named = vec![false; design.bads.len()];
+    for (at, line) in lines.enumerate() {
+        let number = at + 2;
+        if line.is_empty() || line[0] == b'#' {
+            continue;
+        }
+        let (holds, digits) = match (line.strip_prefix(b"hold b"), line.strip_prefix(b"fail b")) {
+            (Some(digits), _) => (true, digits),
+            (_, Some(digits)) => (false, digits),
+            _ => return Err(format!("1 line line {number}")),
+        };
+        if digits.is_empty() || !digits.iter().all(u8::is_ascii_digit) {
+            return Err(format!("1 line line {number}"));
+        }
+        let prop = digits.iter().fold(0usize, |n, b| n.saturating_mul(10).saturating_add((b - b'0') as usize));
+        if prop >= named.len() {
+            return Err(format!("2 unknown line {number}"));
+        }
+        if std::mem::replace(&mut named[prop], true) {
+            return Err(format!("3 twice line {number}"));
+        }
+        expected[prop] = holds;
+    }
+    Ok(expected)
+}
+
+fn confirm(design: &Design, expected: &[bool], (prop, first, rows): &Stimulus) -> (String, i32) {
     for (at, latch) in design.latches.iter().enumerate() {
         if latch.reset.is_some_and(|bit| bit != first[at]) {
             return (format!("not confirmed: start latch {at}"), 1);
@@ -362,7 +470,8 @@ fn confirm(design: &Design, (prop, first, rows): &Stimulus) -> (String, i32) {
             constraint = Some(step);
         }
         if broken.is_none() && step + 1 < rows.len() {
-            broken = design.bads.iter().position(|lit| value(*lit)).map(|prop| (prop, step));
+            let mut bads = design.bads.iter().zip(expected);
+            broken = bads.position(|(lit, holds)| *holds && value(*lit)).map(|prop| (prop, step));
         }
         for (latch, bit) in design.latches.iter().zip(state.iter_mut()) {
             *bit = value(latch.next);
@@ -381,26 +490,28 @@ fn confirm(design: &Design, (prop, first, rows): &Stimulus) -> (String, i32) {
     }
 }
 
+fn replay(design: &str, stim: &str, expect: Option<&String>) -> Result<(String, i32), (String, i32)> {
+    let read = |name: &str| std::fs::read(name).map_err(|_| ("fault: outside".to_string(), 5));
+    let fault = |file: &str, words: String| (format!("fault: {file} {words}"), 3);
+    let design = read_design(&read(design)?).map_err(|words| fault("design", words))?;
+    let stimulus = read_stimulus(&read(stim)?, &design).map_err(|words| fault("stimulus", words))?;
+    let expected = match expect {
+        Some(name) => read_expectations(&read(name)?, &design).map_err(|words| fault("expect", words))?,
+        None => vec![true; design.bads.len()],
+    };
+    Ok(confirm(&design, &expected, &stimulus))
+}
+
 fn run(words: &[String]) -> (String, i32) {
-    let [command, design, stim] = words else {
-        return ("fault: usage".into(), 4);
-    };
-    if command != "confirm" || design.starts_with('-') || stim.starts_with('-') {
-        return ("fault: usage".into(), 4);
-    }
-    let Ok(bytes) = std::fs::read(design) else {
-        return ("fault: outside".into(), 5);
-    };
-    let design = match read_design(&bytes) {
-        Ok(design) => design,
-        Err(words) => return (format!("fault: design {words}"), 3),
-    };
-    let Ok(bytes) = std::fs::read(stim) else {
-        return ("fault: outside".into(), 5);
-    };
-    match read_stimulus(&bytes, &design) {
-        Ok(stimulus) => confirm(&design, &stimulus),
-        Err(words) => (format!("fault: stimulus {words}"), 3),
+    match words {
+        [command, names @ ..]
+            if command == "confirm"
+                && (names.len() == 2 || names.len() == 3)
+                && !names.iter().any(|name| name.starts_with('-')) =>
+        {
+            replay(&names[0], &names[1], names.get(2)).unwrap_or_else(|fault| fault)
+        }
+        _ => ("fault: usage".into(), 4),
     }
 }
 
