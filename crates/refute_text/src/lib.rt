@@ -5,6 +5,8 @@ mod laws;
 mod line;
 mod numbers;
 mod read;
+#[cfg(test)]
+mod tests;
 mod write;
 
 pub use laws::{bad_places_agree, text_has_no_bad_line, text_has_one_list};
