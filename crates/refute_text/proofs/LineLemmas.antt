@@ -7,7 +7,7 @@ use Rattle.ja_text.specs.Numbers.{number_at}
 use Rattle.ja_text.specs.Lines.{space_at, newline_at, word_at}
 use Rattle.ja_text.proofs.ByteLemmas.{word_takes, word_again, newline_takes, newline_again}
 use Rattle.refute_check.specs.declared.lines.Line.{Line}
-use Rattle.refute_text.specs.RefutationText.{spaced, line_text, AreSmall, IsLine, TakesLine}
+use Rattle.refute_text.specs.RefutationText.{spaced, line_text, AreSmall, TakesLine}
 use Rattle.refute_text.specs.Reading.{TakesSpaced, TakesNone, TakesAll, spaced_at}
 use Rattle.refute_text.proofs.ChainLemmas.{IsOne, all_agree, Chain-spelled, Chain-good}
 use Rattle.refute_text.proofs.NumberLemmas.{spaced_again, spaced_one, spaced_all}

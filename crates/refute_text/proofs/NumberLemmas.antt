@@ -1,19 +1,19 @@
 -- A number behind a space is read as it is spelled, and what is spelled so is read so.
-use Rattle.std.proofs.Common.{◌≡◌, ℕ, ◌+◌, ◌<◌, ◌≤◌, ◌^◌, Bool, true, false, not, cond, ◌&&◌, ◌||◌, eqb, ltb, List, [], ◌∷◌, ◌++◌, length, Option, Some, None, refl, sym, ap, subst, ◌∙◌, arith}
+use Rattle.std.proofs.Common.{◌≡◌, ℕ, ◌<◌, ◌≤◌, ◌^◌, Bool, true, false, cond, ◌&&◌, ◌||◌, eqb, ltb, List, [], ◌∷◌, ◌++◌, length, Option, Some, None, refl, sym, ap, subst, ◌∙◌, arith}
 use Rattle.std.specs.Prelude.{decimal, option_and_then}
 use Rattle.std.specs.List.{flat_map}
 use Rattle.std.proofs.lemmas.Bool.Decides.{nat_tests}
 use Rattle.std.proofs.lemmas.Option.{some_pair_parts}
 use Rattle.std.proofs.lemmas.Bool.{ltb-false, le-ltb}
-use Rattle.ja_text.specs.Numbers.{is_digit, value_of, IsNumber, HasNoLeadingZero, BeginsWithoutDigit, number_at}
+use Rattle.ja_text.specs.Numbers.{is_digit, value_of, IsNumber, TakesNumber, HasNoLeadingZero, BeginsWithoutDigit, number_at}
 use Rattle.ja_text.specs.Lines.{space_at}
 use Rattle.ja_text.specs.Repeated.{Chain}
 use Rattle.ja_text.proofs.ByteLemmas.{space_takes, space_again}
 use Rattle.ja_text.proofs.NumberLemmas.{digit_true, number_takes, number_again}
-use Rattle.ja_text.proofs.DecimalLemmas.{decimal_is_number, decimal_is_canonical, canonical_is_decimal}
+use Rattle.ja_text.proofs.DecimalLemmas.{decimal_is_canonical, canonical_is_decimal}
 use Rattle.refute_text.specs.RefutationText.{spaced, AreSmall}
 use Rattle.refute_text.specs.Reading.{TakesSpaced, TakesNone, TakesAll, has_leading_zero, spaced_at}
-use Rattle.refute_text.proofs.ChainLemmas.{IsOne, all_agree, regroup}
+use Rattle.refute_text.proofs.ChainLemmas.{IsOne, regroup}
 
 -- what was read first, where something was read
 and_then_some : {A B : Type 0} (f : A → Option B) (o : Option A) (y : B) → option_and_then f o ≡ Some y → (x : A) × (o ≡ Some x) × (f x ≡ Some y)
@@ -61,27 +61,34 @@ no_zero (d ∷ e ∷ ds) rest some leading ends = other (eqb d 48) refl
 
 -- ---- one number
 
-pub spaced_takes : (bytes : List ℕ) (n : ℕ) (rest : List ℕ) → spaced_at bytes ≡ Some (n, rest) → TakesSpaced bytes n rest
-unfolding spaced_at
-spaced_takes bytes n rest e =
-    let space = and_then_some (λ (digits : List ℕ). option_and_then (λ (x : ℕ × List ℕ). cond (ltb 4294967295 x.0 || has_leading_zero digits) None (Some x)) (number_at digits)) (space_at bytes) (n, rest) e in
-    let digits = space.0 in
-    let number = and_then_some (λ (x : ℕ × List ℕ). cond (ltb 4294967295 x.0 || has_leading_zero digits) None (Some x)) (number_at digits) (n, rest) space.2 in
-    let test = passed (ltb 4294967295 number.0.0) (has_leading_zero digits) number.0 (n, rest) number.2 in
-    let read : number_at digits ≡ Some (n, rest) = number.1 ∙ ap (λ (x : ℕ × List ℕ). Some x) test.2 in
-    let small : number.0.0 ≤ 4294967295 = ltb-false 4294967295 number.0.0 test.0 in
-    let same : number.0.0 ≡ n = ap (λ (x : ℕ × List ℕ). x.0) test.2 in
-    let t = number_takes digits n rest read in
+-- the digits that were read are those that are written of the number
+number_written : (digits : List ℕ) (n : ℕ) (rest : List ℕ) → TakesNumber digits n rest → n ≤ 4294967295 → has_leading_zero digits ≡ false → digits ≡ decimal n ++ rest
+number_written digits n rest t small zero =
     let text = t.number.text in
     let exact : value_of text ≡ n = omega (arith, t.number.form.value) in
-    let plain : IsNumber text (value_of text) = subst (λ (k : ℕ). IsNumber text k) (sym exact) t.number.form in
-    let zero : has_leading_zero (text ++ rest) ≡ false = subst (λ (k : List ℕ). has_leading_zero k ≡ false) t.number.parts test.1 in
-    let written : text ≡ decimal n = canonical_is_decimal text n (omega arith) (record { number = t.number.form; exact = exact; leading = no_leading_zero text rest plain zero }) in
-    record {
-      small = omega arith;
-      parts = space_takes bytes digits space.1 ∙ ap (λ (k : List ℕ). 32 ∷ k) (t.number.parts ∙ ap (λ (k : List ℕ). k ++ rest) written);
-      ends = t.ends;
-    }
+    let plain : IsNumber text (value_of text) = subst (λ (k : ℕ). IsNumber text k) {y = value_of text} (sym exact) t.number.form in
+    let none : has_leading_zero (text ++ rest) ≡ false = ap has_leading_zero (sym t.number.parts) ∙ zero in
+    let written : text ≡ decimal n = canonical_is_decimal text n (omega arith) (record { number = t.number.form; exact = exact; leading = no_leading_zero text rest plain none }) in
+    t.number.parts ∙ ap (λ (k : List ℕ). k ++ rest) written
+
+spaced_parts : (bytes digits : List ℕ) (n : ℕ) (rest : List ℕ) → bytes ≡ 32 ∷ digits → TakesNumber digits n rest → n ≤ 4294967295 → has_leading_zero digits ≡ false → TakesSpaced bytes n rest
+spaced_parts bytes digits n rest begins t small zero =
+    record { small = omega arith; parts = begins ∙ ap (λ (k : List ℕ). 32 ∷ k) (number_written digits n rest t small zero); ends = t.ends }
+
+-- the number behind the space, if its test lets it through
+number_behind : List ℕ → Option (ℕ × List ℕ)
+number_behind digits = option_and_then (λ x. cond (ltb 4294967295 x.0 || has_leading_zero digits) None (Some x)) (number_at digits)
+
+pub spaced_takes : (bytes : List ℕ) (n : ℕ) (rest : List ℕ) → spaced_at bytes ≡ Some (n, rest) → TakesSpaced bytes n rest
+unfolding spaced_at number_behind
+spaced_takes bytes n rest e =
+    let space = and_then_some number_behind (space_at bytes) (n, rest) e in
+    let number = and_then_some (λ x. cond (ltb 4294967295 x.0 || has_leading_zero space.0) None (Some x)) (number_at space.0) (n, rest) space.2 in
+    let test = passed (ltb 4294967295 number.0.0) (has_leading_zero space.0) number.0 (n, rest) number.2 in
+    let read : number_at space.0 ≡ Some (n, rest) = number.1 ∙ ap (λ (x : ℕ × List ℕ). Some x) test.2 in
+    let same : number.0.0 ≡ n = ap (λ (x : ℕ × List ℕ). x.0) test.2 in
+    let small : number.0.0 ≤ 4294967295 = ltb-false 4294967295 number.0.0 test.0 in
+    spaced_parts bytes space.0 n rest (space_takes bytes space.0 space.1) (number_takes space.0 n rest read) (omega arith) test.1
 
 pub spaced_again : (bytes : List ℕ) (n : ℕ) (rest : List ℕ) → TakesSpaced bytes n rest → spaced_at bytes ≡ Some (n, rest)
 unfolding spaced_at

@@ -47,6 +47,10 @@ fn lines_that_are_none(rt: HostRuntime) {
     ];
     for (bytes, at) in table {
         let refused = read_lines(rt.alloc(), bytes).err();
-        assert_eq!(rt; refused, Some(OrMemory::Refused(Bad { at })), "at {bytes:?}");
+        assert_eq!(rt;
+            refused,
+            Some(OrMemory::Refused(Bad { at })),
+            "at {bytes:?}"
+        );
     }
 }

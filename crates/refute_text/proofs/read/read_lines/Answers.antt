@@ -1,9 +1,8 @@
 use Rattle.std.proofs.Common.{List, ◌<◌, length, subst, sym, arith, refl, ◌∙◌, eqb-true}
 use Rattle.std.proofs.lemmas.Bool.Decides.{nat_tests}
-use Rattle.std.proofs.lemmas.List.{length-append}
 use Rattle.ja_text.specs.Repeated.{Chain}
 use Rattle.refute_check.specs.declared.lines.Line.{Line}
-use Rattle.refute_text.specs.RefutationText.{TakesLine, IsFirstBadLine}
+use Rattle.refute_text.specs.RefutationText.{TakesLine}
 use Rattle.refute_text.proofs.ChainLemmas.{Chain-more}
 use Rattle.refute_text.proofs.TextLemmas.{bad_place, no_text, is_text, only_text, not_longer}
 use Rattle.refute_text.proofs.read.read_lines.Goals as goal
