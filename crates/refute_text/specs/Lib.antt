@@ -1,0 +1,2 @@
+pub mod RefutationText
+pub mod Reading
