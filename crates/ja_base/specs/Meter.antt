@@ -1,4 +1,4 @@
--- Counts of a meter.
+-- Counts that are kept in a u64: of a meter, of faults, of polls.
 use Rattle.std.specs.Prelude.{ℕ, ◌+◌, min}
 
 -- the next number, or the greatest of a u64

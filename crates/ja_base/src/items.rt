@@ -46,6 +46,13 @@ impl<T> Items<T> {
         Items { items }
     }
 
+    /// The vector of the items, without a copy.
+    pub fn into_vec(self) -> Vec<T>
+        ensures { result.items ≡ self }
+    {
+        self.items
+    }
+
     pub fn len(&self) -> u32
         ensures { result ≡ length self.now }
     {

@@ -1,9 +1,6 @@
 -- Counts of faults, each kept in a u64 that stays at its last value.
-use Rattle.std.specs.Prelude.{ℕ, ◌+◌, ◌≤◌, min}
-
--- the next number, or the last one of a u64
-abbrev pub next_count : ℕ → ℕ
-next_count n = min (n + 1) 18446744073709551615
+use Rattle.std.specs.Prelude.{ℕ, ◌≤◌}
+use Rattle.ja_base.specs.Meter.{next_count}
 
 -- the count rose; one that stands at its last value counts as risen
 abbrev pub Rose : ℕ → ℕ → Type 0

@@ -1,6 +1,6 @@
 -- A flag in memory, and what a poll leaves.
 use Rattle.std.specs.Prelude.{ℕ, Bool, false, nat_le, if◌then◌else◌, Option, Some, None}
-use Rattle.ja_outside.specs.Faults.{next_count}
+use Rattle.ja_base.specs.Meter.{next_count}
 
 -- the number of the first poll that finds it raised, the polls so far, and those that found it raised
 pub record FlagInMemory : Type 0 where

@@ -2,7 +2,7 @@
 use Rattle.std.specs.Prelude.{ℕ, ◌-◌, ◌==◌, ◌&&◌, ◌++◌, Bool, nat_lt, bytes_eq, if◌then◌else◌, List, [], ◌∷◌, length, take}
 use Rattle.std.specs.Prelude.{Option, Some, None}
 use Rattle.std.specs.List.{list_any}
-use Rattle.ja_outside.specs.Faults.{next_count}
+use Rattle.ja_base.specs.Meter.{next_count}
 
 -- the files by name, what is left of the selected one, at most how many bytes a read gives, the numbers of the calls that
 -- fail, and the calls and faults so far

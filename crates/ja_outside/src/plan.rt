@@ -2,7 +2,7 @@
 
 ghost use Rattle.std.specs.Prelude.{◌≡◌, ◌≤◌, ◌==◌, if◌then◌else◌};
 ghost use Rattle.std.specs.List.{list_any};
-ghost use Rattle.ja_outside.specs.Faults.{next_count};
+ghost use Rattle.ja_base.specs.Meter.{next_count};
 
 /// The numbers of the calls that fail, and the calls and faults so far.
 #[derive(Debug, Drop)]
