@@ -67,6 +67,26 @@ def stimulus(inputs, latches, rows, seed=2):
     return "\n".join(lines + ["."]) + "\n"
 
 
+def refutations(variables, lines, seed=4):
+    """Clauses that say that each variable follows from the one before it, and a log of lines that follow from these."""
+    chance = random.Random(seed)
+    clauses = [f" {2 * var + 1} {2 * var + 2} ;\n" for var in range(variables - 1)]
+    latest = [(var, var + 1) for var in range(variables - 1)]
+    log = []
+    for number in range(len(clauses), len(clauses) + lines):
+        first = chance.randrange(variables - 50)
+        hints, var = [], first
+        for _ in range(chance.randrange(2, 7)):
+            if var >= variables - 1:
+                break
+            clause, var = latest[var]
+            hints.append(clause)
+        log.append(f" {2 * first + 1} {2 * var} ;" + "".join(f" {hint}" for hint in hints) + "\n")
+        if var - first < 40:
+            latest[first] = (number, var)
+    return "".join(clauses), "".join(log)
+
+
 def main(folder):
     folder.mkdir(parents=True, exist_ok=True)
     texts = {
@@ -85,6 +105,10 @@ def main(folder):
     }
     for name, text in texts.items():
         (folder / name).write_text(text)
+    clauses, log = refutations(100_000, 1_000_000)
+    (folder / "clauses").write_text(clauses)
+    (folder / "log").write_text(log)
+    (folder / "nothing").write_text("")
     (folder / "binary.aag").write_bytes(binary(50_000, 50_000, 400_000))
     (folder / "binary.stim").write_text(stimulus(50_000, 50_000, 1))
 
