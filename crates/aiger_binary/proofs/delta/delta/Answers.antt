@@ -1,4 +1,4 @@
-use Rattle.std.proofs.Common.{◌*◌, ◌≤◌, arith}
+use Rattle.std.proofs.Common.{arith}
 use Rattle.aiger_lines.specs.Reading.{place}
 use Rattle.aiger_binary.specs.Reading.{delta_at}
 use Rattle.aiger_binary.proofs.DeltaLemmas.{low_ends, low_goes_on, group_fits, number_fits, scale_fits, number_below, next_scale}
