@@ -16,7 +16,7 @@ use Rattle.aig_model.specs.declared.netlist.AndGate.{AndGate}
 use Rattle.aig_model.specs.Netlist.{IsNew}
 use Rattle.aiger_lines.specs.declared.refusal.ReadRefusal.{ReadRefusal}
 use Rattle.aiger_lines.specs.declared.refusal.ReadRefusal.TheVariants as refusal
-use Rattle.aiger_lines.specs.Lines.{AreLines, IsLiteralLine, IsUsed, TakesItem, TakesItems, reset_number, HasReset}
+use Rattle.aiger_lines.specs.Lines.{AreLines, IsLiteralLine, TakesItem, TakesItems, reset_number, HasReset}
 use Rattle.aiger_lines.specs.Reading.{place, numbers_at, one_number, used_at, reset_at}
 use Rattle.aiger_lines.proofs.SectionLemmas.{items_from_chain, numbers_take, numbers_again, one_takes, used_takes, used_again, reset_takes, reset_again}
 use Rattle.aiger_lines.proofs.PartsLemmas.{IsLatchInRange, IsGateInRange}

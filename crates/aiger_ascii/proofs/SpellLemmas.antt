@@ -1,16 +1,14 @@
 -- What is spelled is read so.
-use Rattle.std.proofs.Common.{◌≡◌, ℕ, ◌+◌, ◌≤◌, Bool, true, false, cond, eqb, List, [], ◌∷◌, ◌++◌, length, map, replicate, Ok, refl, sym, ap, subst, ◌∙◌, inl, inr, append_assoc, arith}
+use Rattle.std.proofs.Common.{◌≡◌, ℕ, ◌+◌, ◌≤◌, Bool, false, cond, eqb, List, ◌++◌, length, map, replicate, Ok, refl, sym, ap, subst, ◌∙◌, inl, inr, append_assoc, arith}
 use Rattle.std.specs.Prelude.{slice_index}
 use Rattle.std.specs.List.{AllByRecursion}
 use Rattle.std.proofs.lemmas.Bool.{cases_lt}
-use Rattle.std.proofs.lemmas.Bool.Decides.{nat_tests}
 use Rattle.std.proofs.lemmas.List.{get_or-replicate, get_or_past, length-replicate}
 use Rattle.ja_base.specs.Literals.{bit, variable}
 use Rattle.aig_model.specs.declared.netlist.Latch.{Latch}
-use Rattle.aig_model.specs.declared.netlist.AndGate.{AndGate}
 use Rattle.aig_model.specs.declared.netlist.Parts.{Parts}
 use Rattle.aig_model.specs.Netlist.{IsNew, gate_var, definitions}
-use Rattle.aig_model.specs.Refusals.{netlist_of, uses, AreInRange, AreOnce}
+use Rattle.aig_model.specs.Refusals.{netlist_of, AreOnce}
 use Rattle.aiger_lines.specs.declared.form.Form.TheVariants.{Ascii}
 use Rattle.aiger_lines.specs.declared.sizes.Header.{Header}
 use Rattle.aiger_lines.specs.Lines.{IsLiteralLine, IsUsed}

@@ -1,5 +1,5 @@
 -- Deltas are read as they are spelled, and what is spelled so is read so.
-use Rattle.std.proofs.Common.{◌≡◌, ℕ, zero, suc, ◌+◌, ◌-◌, ◌*◌, ◌%◌, ◌^◌, ◌<◌, ◌≤◌, true, false, cond, ltb, List, [], ◌∷◌, ◌++◌, length, Result, Ok, Err, refl, sym, ap, subst, ◌∙◌, inl, inr, add-one, arith}
+use Rattle.std.proofs.Common.{◌≡◌, ℕ, zero, suc, ◌+◌, ◌-◌, ◌*◌, ◌%◌, ◌^◌, ◌<◌, ◌≤◌, true, false, ltb, List, [], ◌∷◌, ◌++◌, length, Result, Ok, Err, refl, sym, ap, subst, ◌∙◌, inl, inr, add-one, arith}
 use Rattle.std.proofs.lemmas.Bool.Decides.{nat_tests}
 use Rattle.std.proofs.lemmas.Nat.{mul-le}
 use Rattle.std.proofs.Math.Nat.{pow-suc}
@@ -71,8 +71,20 @@ module _ (size at number scale i : ℕ) (whole : Result (ℕ × List ℕ) ReadRe
 
 -- ---- the loop's numbers are small
 
-part_below : (b scale : ℕ) → b % 128 * scale ≤ 127 * scale
-part_below b scale = mul-le (b % 128) scale 127 scale (omega arith) (omega arith)
+pub product_small : (group scale : ℕ) → group < 128 → scale ≤ 34359738368 → group * scale < 2 ^ 63
+product_small group scale g s =
+    let most : group * scale ≤ 127 * 34359738368 = mul-le group scale 127 34359738368 (omega arith) s in
+    omega arith
+
+pub number_below : (number b scale : ℕ) → number < scale → number + b % 128 * scale < scale * 128
+number_below number b scale lt =
+    let part : b % 128 * scale ≤ 127 * scale = mul-le (b % 128) scale 127 scale (omega arith) (omega arith) in
+    omega arith
+
+pub next_scale : (i scale : ℕ) → scale ≡ 128 ^ i → scale * 128 ≡ 128 ^ (i + 1)
+next_scale i scale e =
+    let power : 128 ^ (i + 1) ≡ 128 ^ i * 128 = rw add-one (pow-suc 128 i) in
+    omega arith
 
 power_small : (i : ℕ) → i < 5 → 128 ^ i ≤ 268435456
 power_small zero lt = omega arith
@@ -82,31 +94,9 @@ power_small (suc (suc (suc zero))) lt = omega arith
 power_small (suc (suc (suc (suc zero)))) lt = omega arith
 power_small (suc (suc (suc (suc (suc i))))) lt = absurd (omega arith)
 
-pub scale_fits : (i scale : ℕ) → i < 5 → scale ≡ 128 ^ i → scale * 128 < 2 ^ 64
-scale_fits i scale lt e =
+pub next_small : (i scale : ℕ) → i < 5 → scale ≡ 128 ^ i → scale * 128 ≤ 34359738368
+next_small i scale lt e =
     let small : 128 ^ i ≤ 268435456 = power_small i lt in
-    omega arith
-
-pub number_below : (number b scale : ℕ) → number < scale → number + b % 128 * scale < scale * 128
-number_below number b scale lt =
-    let part : b % 128 * scale ≤ 127 * scale = part_below b scale in
-    omega arith
-
-pub number_fits : (i number b scale : ℕ) → i < 5 → scale ≡ 128 ^ i → number < scale → number + b % 128 * scale < 2 ^ 64
-number_fits i number b scale lt e below =
-    let all : number + b % 128 * scale < scale * 128 = number_below number b scale below in
-    let small : scale * 128 < 2 ^ 64 = scale_fits i scale lt e in
-    omega arith
-
-pub group_fits : (i b scale : ℕ) → i < 5 → scale ≡ 128 ^ i → b % 128 * scale < 2 ^ 64
-group_fits i b scale lt e =
-    let part : b % 128 * scale ≤ 127 * scale = part_below b scale in
-    let small : scale * 128 < 2 ^ 64 = scale_fits i scale lt e in
-    omega arith
-
-pub next_scale : (i scale : ℕ) → scale ≡ 128 ^ i → scale * 128 ≡ 128 ^ (i + 1)
-next_scale i scale e =
-    let power : 128 ^ (i + 1) ≡ 128 ^ i * 128 = rw add-one (pow-suc 128 i) in
     omega arith
 
 -- ---- as a whole

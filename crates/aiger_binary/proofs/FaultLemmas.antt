@@ -1,5 +1,5 @@
 -- Faults behind the gates, and that a file that is spelled has none.
-use Rattle.std.proofs.Common.{◌≡◌, ℕ, List, length, Result, Ok, Err, sym, ap, subst, ◌∙◌}
+use Rattle.std.proofs.Common.{◌≡◌, ℕ, List, length, Result, Ok, Err, sym, ap, ◌∙◌}
 use Rattle.std.specs.Prelude.{MatchResult, IfOk}
 use Rattle.ja_base.specs.Circuit.{Circuit}
 use Rattle.ja_base.specs.Answers.{IfRefused}

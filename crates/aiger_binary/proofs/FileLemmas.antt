@@ -1,5 +1,5 @@
 -- A file is read as it is spelled, and its lists make a design.
-use Rattle.std.proofs.Common.{◌≡◌, ℕ, ◌+◌, ◌*◌, ◌<◌, ◌≤◌, cond, eqb, List, ◌++◌, length, map, Result, Ok, Err, refl, sym, ap, subst, ◌∙◌, append_assoc, arith}
+use Rattle.std.proofs.Common.{◌≡◌, ℕ, ◌+◌, ◌*◌, ◌≤◌, cond, eqb, List, ◌++◌, length, map, Result, Ok, refl, sym, ap, subst, ◌∙◌, append_assoc, arith}
 use Rattle.std.specs.List.{AllByRecursion, range_with_len}
 use Rattle.std.proofs.lemmas.List.FromFn.{length-map-range_with_len}
 use Rattle.ja_base.specs.Literals.{variable}
@@ -23,7 +23,7 @@ use Rattle.aiger_lines.proofs.ListLemmas.{all_with}
 use Rattle.aiger_lines.proofs.HeaderLemmas.{TakesHeader, header_takes}
 use Rattle.aiger_lines.proofs.SectionLemmas.{literals_take}
 use Rattle.aiger_lines.proofs.PartsLemmas.{bind_then, IsLatchInRange, IsGateInRange, range_of_lists, properties_used}
-use Rattle.aiger_binary.specs.Grammar.{IsLatchLine, IsGateText, Sections, text_of, AreNumbered, AreInOrder, Spells}
+use Rattle.aiger_binary.specs.Grammar.{IsLatchLine, IsGateText, Sections, text_of, AreInOrder, Spells}
 use Rattle.aiger_binary.specs.Reading.{State, input_literals, latch_at, gate_at, before_latches, before_gates, sections_at, file_at}
 use Rattle.aiger_binary.proofs.OrderLemmas.{AreCounted, counted_numbered, counted_range, counted_new, inputs_counted, AreAll, are_all, IsAbove, makes_design}
 use Rattle.aiger_binary.proofs.ItemLemmas.{section_takes, HasNextInRange, latch_step, AnyGate, gate_step, gates_above}
@@ -217,10 +217,10 @@ file_text : (bytes : List ℕ) (f : File) (t : TakesFile bytes f) → bytes ≡ 
 file_text bytes f t =
     let s = t.sections in
     let behind =
-        s.latches.parts ∙ ap (λ (k : List ℕ). s.latches.text ++ k)
-        (s.outputs.parts ∙ ap (λ (k : List ℕ). s.outputs.text ++ k)
-        (s.bads.parts ∙ ap (λ (k : List ℕ). s.bads.text ++ k)
-        (s.constraints.parts ∙ ap (λ (k : List ℕ). s.constraints.text ++ k) s.gates.parts))) in
+    s.latches.parts ∙ ap (λ (k : List ℕ). s.latches.text ++ k)
+    (s.outputs.parts ∙ ap (λ (k : List ℕ). s.outputs.text ++ k)
+    (s.bads.parts ∙ ap (λ (k : List ℕ). s.bads.text ++ k)
+    (s.constraints.parts ∙ ap (λ (k : List ℕ). s.constraints.text ++ k) s.gates.parts))) in
     t.header.parts ∙ ap (λ (k : List ℕ). t.header.text ++ k) behind ∙ sym (regrouped (texts_of t))
 
 -- what is read and ends in a tail is a design

@@ -1,9 +1,8 @@
 -- Latches and gates are read as they are spelled, and what is spelled so is read so.
-use Rattle.std.proofs.Common.{◌≡◌, ℕ, ◌+◌, ◌-◌, ◌*◌, ◌<◌, ◌≤◌, Bool, true, false, cond, leb, List, [], ◌∷◌, ◌++◌, length, map, Result, Ok, Err, refl, sym, ap, subst, ◌∙◌, ◌⊎◌, inl, inr, append_assoc, arith}
+use Rattle.std.proofs.Common.{◌≡◌, ℕ, ◌+◌, ◌-◌, ◌*◌, ◌≤◌, Bool, true, false, cond, leb, List, [], ◌∷◌, ◌++◌, length, Result, Ok, Err, refl, sym, ap, subst, ◌∙◌, ◌⊎◌, inl, inr, append_assoc, arith}
 use Rattle.std.specs.Prelude.{◌&&◌}
 use Rattle.std.specs.List.{AllByRecursion}
 use Rattle.std.proofs.lemmas.Bool.Decides.{nat_tests}
-use Rattle.ja_base.specs.Literals.{variable}
 use Rattle.ja_text.specs.Forms.{BeginsWith}
 use Rattle.ja_text.specs.Rows.{IsRow}
 use Rattle.ja_text.specs.Reading.{◌>>=◌}
@@ -267,8 +266,7 @@ pub gates_above : (text : List ℕ) (gs : List AndGate) (l : ℕ) → AreLines I
 gates_above text [] l lines counted = tt
 gates_above text (g ∷ gs) l lines counted =
     let f = lines.2 in
-    let next : 2 * l + 2 ≡ 2 * (l + 1) = omega arith in
-    (
+    let next : 2 * l + 2 ≡ 2 * (l + 1) = omega arith in (
       record { rhs0 = omega (arith, f.below, counted.0); rhs1 = omega (arith, f.below, f.rhs0_is, counted.0) },
       gates_above lines.1 gs (l + 1) lines.4 (subst (λ (k : ℕ). AreCounted (λ (x : AndGate). x.lhs) k gs) next counted.1),
     )

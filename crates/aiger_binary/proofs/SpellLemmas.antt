@@ -13,9 +13,9 @@ use Rattle.aiger_lines.specs.Files.{Counts, File}
 use Rattle.aiger_lines.proofs.ListLemmas.{all_weaker}
 use Rattle.aiger_lines.proofs.HeaderLemmas.{header_again}
 use Rattle.aiger_lines.proofs.SectionLemmas.{literals_again}
-use Rattle.aiger_lines.proofs.PartsLemmas.{IsLatchInRange, AreListsInRange, lists_of_range, bads_used, same_lists}
+use Rattle.aiger_lines.proofs.PartsLemmas.{IsLatchInRange, AreListsInRange, lists_of_range, bads_used}
 use Rattle.aiger_binary.specs.Grammar.{IsLatchLine, Sections, AreInOrder, AreSpelled, Spells}
-use Rattle.aiger_binary.specs.Reading.{State, input_literals, latch_at, gate_at, before_latches, before_gates, sections_at, file_at}
+use Rattle.aiger_binary.specs.Reading.{input_literals, latch_at, gate_at, before_latches, before_gates, sections_at, file_at}
 use Rattle.aiger_binary.proofs.OrderLemmas.{numbered_counted, counted_inputs}
 use Rattle.aiger_binary.proofs.ItemLemmas.{section_again, HasNextInRange, latch_step, gates_again}
 use Rattle.aiger_binary.proofs.FileLemmas.{behind_header, regrouped}

@@ -19,7 +19,7 @@ fn first(bytes: &[u8]) -> Option<(u8, &[u8])>
 const MOST_BYTES: usize = 5;
 
 /// The delta at the front, in a file of so many bytes, and what follows it.
-#[tactic(auto, unfolding(crate::specs::Reading::delta_at))]
+#[tactic(auto, using(crate::proofs::DeltaLemmas::product_small), unfolding(crate::specs::Reading::delta_at))]
 pub fn delta(size: usize, bytes: &[u8]) -> Result<(u64, &[u8]), ReadRefusal>
     ensures { Reads (λ x. (x.0, x.1.now)) result (delta_at size bytes.now) }
 {

@@ -1,4 +1,4 @@
-use Rattle.std.proofs.Common.{◌*◌, refl, sym, ap, ◌∙◌, ◌++◌, List, ℕ, ◌∷◌, [], ◌+◌, arith}
+use Rattle.std.proofs.Common.{◌*◌, refl, sym, ap, ◌∙◌, ◌++◌, List, ℕ, ◌∷◌, [], ◌+◌}
 use Rattle.std.proofs.lemmas.List.FromFn.{map-range_with_len_more}
 use Rattle.aiger_binary.proofs.inputs.inputs.Goals as goal
 
