@@ -4,3 +4,4 @@ pub mod Sound
 pub mod Covered
 pub mod FitLemmas
 pub mod ListLemmas
+pub mod SearchLemmas

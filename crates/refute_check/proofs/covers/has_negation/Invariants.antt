@@ -1,7 +1,0 @@
-use Rattle.std.proofs.Common.{◌≡◌, drop}
-use Rattle.ja_base.specs.Literals.{negated}
-use Rattle.ja_base.specs.Clauses.{has_literal}
-use Rattle.refute_check.proofs.covers.has_negation.Given as goal
-
-abbrev pub invariant-loop-other : goal.invariant-loop-other
-invariant-loop-other l = has_literal l.under (negated l.fn.lit) ≡ has_literal (drop l.other-index l.under) (negated l.fn.lit)
