@@ -9,3 +9,5 @@ pub mod Laws
 pub mod Answers
 pub mod Clauses
 pub mod Meter
+pub mod ClauseSets
+pub mod Budget

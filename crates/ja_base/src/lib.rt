@@ -1,8 +1,10 @@
-//! Plain values that every other crate speaks of: literals, lists, rows of bits, want of memory. The product's meaning
-//! stands in `specs/`: `Literals`, `Circuit`, `Valuation`, `Runs`, `Replay`, `Invariants`, `Sets`, `Laws`, `Clauses`.
+//! Plain values that every other crate speaks of: literals, lists, rows of bits, want of memory, and what a closed list is to
+//! those who use one. The product's meaning stands in `specs/`: `Literals`, `Circuit`, `Valuation`, `Runs`, `Replay`,
+//! `Invariants`, `Sets`, `Laws`, `Clauses`, `ClauseSets`, `Budget`.
 #![tactic(auto)]
 
 mod clause;
+mod closed_set;
 mod items;
 mod literal;
 mod memory;
@@ -12,6 +14,7 @@ mod row;
 mod tests;
 
 pub use clause::{Clause, ClauseList};
+pub use closed_set::ClosedSet;
 pub use items::{Items, Lits, Props};
 pub use literal::{Lit, Var};
 pub use memory::{Memory, OrMemory};
