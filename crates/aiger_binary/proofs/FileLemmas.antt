@@ -26,7 +26,9 @@ use Rattle.aiger_lines.proofs.PartsLemmas.{bind_then, IsLatchInRange, IsGateInRa
 use Rattle.aiger_binary.specs.Grammar.{IsLatchLine, IsGateText, Sections, text_of, AreInOrder, Spells}
 use Rattle.aiger_binary.specs.Reading.{State, input_literals, latch_at, gate_at, before_latches, before_gates, sections_at, file_at}
 use Rattle.aiger_binary.proofs.OrderLemmas.{AreCounted, counted_numbered, counted_range, counted_new, inputs_counted, AreAll, are_all, IsAbove, makes_design}
-use Rattle.aiger_binary.proofs.ItemLemmas.{section_takes, HasNextInRange, latch_step, AnyGate, gate_step, gates_above}
+use Rattle.aiger_binary.proofs.ItemLemmas.{section_takes}
+use Rattle.aiger_binary.proofs.LatchLemmas.{HasNextInRange, latch_step}
+use Rattle.aiger_binary.proofs.GateLemmas.{AnyGate, gate_step, gates_above}
 
 -- ---- what is read is spelled so
 

@@ -17,7 +17,9 @@ use Rattle.aiger_lines.proofs.PartsLemmas.{IsLatchInRange, AreListsInRange, list
 use Rattle.aiger_binary.specs.Grammar.{IsLatchLine, Sections, AreInOrder, AreSpelled, Spells}
 use Rattle.aiger_binary.specs.Reading.{input_literals, latch_at, gate_at, before_latches, before_gates, sections_at, file_at}
 use Rattle.aiger_binary.proofs.OrderLemmas.{numbered_counted, counted_inputs}
-use Rattle.aiger_binary.proofs.ItemLemmas.{section_again, HasNextInRange, latch_step, gates_again}
+use Rattle.aiger_binary.proofs.ItemLemmas.{section_again}
+use Rattle.aiger_binary.proofs.LatchLemmas.{HasNextInRange, latch_step}
+use Rattle.aiger_binary.proofs.GateLemmas.{gates_again}
 use Rattle.aiger_binary.proofs.FileLemmas.{behind_header, regrouped}
 
 -- the lists with other variables, inputs and bads, which are the same

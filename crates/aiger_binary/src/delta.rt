@@ -6,6 +6,8 @@ ghost use Rattle.aiger_binary.specs.Reading.{delta_at};
 
 use aiger_lines::{ReadRefusal, place};
 
+const MOST_BYTES: usize = 5;
+
 /// The byte at the front, and what follows it.
 fn first(bytes: &[u8]) -> Option<(u8, &[u8])>
     ensures { MatchOption result (bytes.now ≡ []) (λ x. bytes.now ≡ x.0 ∷ x.1.now) }
@@ -15,8 +17,6 @@ fn first(bytes: &[u8]) -> Option<(u8, &[u8])>
         [] => None,
     }
 }
-
-const MOST_BYTES: usize = 5;
 
 /// The delta at the front, in a file of so many bytes, and what follows it.
 #[tactic(auto, using(crate::proofs::DeltaLemmas::product_small), unfolding(crate::specs::Reading::delta_at))]

@@ -1,6 +1,6 @@
 //! What the two forms of AIGER 1.9 share: the header, the lines of numbers, symbols and comments, and the refusals. What a
 //! text of each is stands in `specs/Header`, `specs/Lines` and `specs/Tail`; in which order faults are met in
-//! `specs/Reading`.
+//! `specs/Reading`; the words of a whole file in `specs/Files`.
 #![tactic(auto)]
 
 mod form;
