@@ -8,7 +8,7 @@ use Rattle.ja_base.specs.Circuit.{is_defined}
 use Rattle.ja_base.specs.Clauses.{IsBelow}
 use Rattle.ja_base.proofs.LiteralLemmas.{variable_negated}
 use Rattle.aig_model.specs.declared.netlist.AndGate.{AndGate}
-use Rattle.aig_model.specs.Netlist.{Netlist, IsSound, IsSoundGate, circuit}
+use Rattle.aig_model.specs.Netlist.{Netlist, IsSound, IsSoundGate, IsNew, circuit}
 use Rattle.ja_project.specs.CodedClauses.{clause_of, gate_clauses, coded_clauses}
 use Rattle.ja_project.proofs.EachLemmas.{each_from_places}
 use Rattle.ja_project.proofs.ClauseLemmas.{each_of_clause}
@@ -20,6 +20,9 @@ clause_is_below vars lits h = All-from_recursion (λ l. variable l < vars + 1) (
 pub lit_is_below : (vars l : ℕ) → l ≤ 2 * vars + 1 → variable l < vars + 1
 lit_is_below vars l h = omega arith
 
+pub new_is_below : (vars l : ℕ) → IsNew vars l → variable l < vars + 1
+new_is_below vars l new = omega (arith, new.within)
+
 pub negated_is_below : (vars l : ℕ) → variable l < vars + 1 → variable (negated l) < vars + 1
 negated_is_below vars l h = omega (arith, variable_negated l)
 
@@ -28,10 +31,10 @@ gate_is_below n k g sound =
     let lhs : variable g.lhs < n.vars + 1 = omega (arith, sound.lhs.within) in
     let rhs0 = lit_is_below n.vars g.rhs0 sound.rhs0.within in
     let rhs1 = lit_is_below n.vars g.rhs1 sound.rhs1.within in
-    (clause_is_below n.vars (negated g.lhs ∷ g.rhs0 ∷ []) (negated_is_below n.vars g.lhs lhs, rhs0, tt),
-    clause_is_below n.vars (negated g.lhs ∷ g.rhs1 ∷ []) (negated_is_below n.vars g.lhs lhs, rhs1, tt),
-    clause_is_below n.vars (g.lhs ∷ negated g.rhs0 ∷ negated g.rhs1 ∷ []) (lhs, negated_is_below n.vars g.rhs0 rhs0, negated_is_below n.vars g.rhs1 rhs1, tt),
-    tt)
+    let left = clause_is_below n.vars (negated g.lhs ∷ g.rhs0 ∷ []) (negated_is_below n.vars g.lhs lhs, (rhs0, tt)) in
+    let right = clause_is_below n.vars (negated g.lhs ∷ g.rhs1 ∷ []) (negated_is_below n.vars g.lhs lhs, (rhs1, tt)) in
+    let both = clause_is_below n.vars (g.lhs ∷ negated g.rhs0 ∷ negated g.rhs1 ∷ []) (lhs, (negated_is_below n.vars g.rhs0 rhs0, (negated_is_below n.vars g.rhs1 rhs1, tt))) in
+    (left, (right, (both, tt)))
 
 undefined_is_below : (vars u : ℕ) (b : Bool) → u < 1 + vars → AllByRecursion (IsBelow (vars + 1)) (cond b [] ((literal_of u true ∷ []) ∷ []))
 undefined_is_below vars u true high = tt

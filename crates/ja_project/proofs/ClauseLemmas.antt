@@ -38,21 +38,21 @@ module _ (p : ℕ → Bool) where
 
 IsAbove-with : (x l : ℕ) (clause : List ℕ) → x < l → IsAbove x clause → IsAbove x (with_literal l clause)
 IsAbove-with x l [] below h = (below, tt)
-IsAbove-with x l (m ∷ ms) below h = by_test (eqb l m) (ltb l m)
+IsAbove-with x l (m ∷ ms) below h = by_test (eqb l m) (ltb l m) (IsAbove-with x l ms below h.1)
   where
-    by_test : (t s : Bool) → IsAbove x (cond t (m ∷ ms) (cond s (l ∷ m ∷ ms) (m ∷ with_literal l ms)))
-    by_test true s = h
-    by_test false true = (below, h)
-    by_test false false = (h.0, IsAbove-with x l ms below h.1)
+    by_test : (t s : Bool) → IsAbove x (with_literal l ms) → IsAbove x (cond t (m ∷ ms) (cond s (l ∷ m ∷ ms) (m ∷ with_literal l ms)))
+    by_test true s later = h
+    by_test false true later = (below, h)
+    by_test false false later = (h.0, later)
 
 Ascends-with : (l : ℕ) (clause : List ℕ) → Ascends clause → Ascends (with_literal l clause)
 Ascends-with l [] h = (tt, tt)
-Ascends-with l (m ∷ ms) h = by_test (eqb l m) (ltb l m) refl refl
+Ascends-with l (m ∷ ms) h = by_test (eqb l m) (ltb l m) refl refl (Ascends-with l ms h.1)
   where
-    by_test : (t s : Bool) → t ≡ eqb l m → s ≡ ltb l m → Ascends (cond t (m ∷ ms) (cond s (l ∷ m ∷ ms) (m ∷ with_literal l ms)))
-    by_test true s e f = h
-    by_test false true e f = let below : l < m = grind (arith, nat_tests) in ((below, IsAbove-lower l m ms (omega arith) h.0), h)
-    by_test false false e f = let above : m < l = grind (arith, nat_tests) in (IsAbove-with m l ms above h.0, Ascends-with l ms h.1)
+    by_test : (t s : Bool) → t ≡ eqb l m → s ≡ ltb l m → Ascends (with_literal l ms) → Ascends (cond t (m ∷ ms) (cond s (l ∷ m ∷ ms) (m ∷ with_literal l ms)))
+    by_test true s e f later = h
+    by_test false true e f later = let below : l < m = grind (arith, nat_tests) in ((below, IsAbove-lower l m ms (omega arith) h.0), h)
+    by_test false false e f later = let above : m < l = grind (arith, nat_tests) in (IsAbove-with m l ms above h.0, later)
 
 Ascends-clause : (lits : List ℕ) → Ascends (clause_of lits)
 Ascends-clause [] = tt
@@ -76,12 +76,12 @@ clause_is lits clause set =
 module _ (P : ℕ → Type 0) where
   each_with : (l : ℕ) (clause : List ℕ) → P l → AllByRecursion P clause → AllByRecursion P (with_literal l clause)
   each_with l [] here h = (here, tt)
-  each_with l (m ∷ ms) here h = by_test (eqb l m) (ltb l m)
+  each_with l (m ∷ ms) here h = by_test (eqb l m) (ltb l m) (each_with l ms here h.1)
     where
-      by_test : (t s : Bool) → AllByRecursion P (cond t (m ∷ ms) (cond s (l ∷ m ∷ ms) (m ∷ with_literal l ms)))
-      by_test true s = h
-      by_test false true = (here, h)
-      by_test false false = (h.0, each_with l ms here h.1)
+      by_test : (t s : Bool) → AllByRecursion P (with_literal l ms) → AllByRecursion P (cond t (m ∷ ms) (cond s (l ∷ m ∷ ms) (m ∷ with_literal l ms)))
+      by_test true s later = h
+      by_test false true later = (here, h)
+      by_test false false later = (h.0, later)
 
   pub each_of_clause : (lits : List ℕ) → AllByRecursion P lits → AllByRecursion P (clause_of lits)
   each_of_clause [] h = tt

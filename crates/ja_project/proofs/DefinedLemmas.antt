@@ -15,7 +15,7 @@ use Rattle.ja_base.specs.Literals.{bit, variable}
 use Rattle.ja_base.specs.Circuit as plain
 use Rattle.aig_model.specs.declared.netlist.AndGate.{AndGate}
 use Rattle.aig_model.specs.declared.netlist.Latch.{Latch}
-use Rattle.aig_model.specs.Netlist.{Netlist, IsNew, circuit, entry_of, gate_var, latch_of}
+use Rattle.aig_model.specs.Netlist.{Netlist, circuit, entry_of, gate_var, latch_of}
 use Rattle.ja_project.specs.Coding.{Marks}
 
 pub Marks-none : (row : List Bool) → Marks [] row row
@@ -61,9 +61,6 @@ module _ {X : Type 0} (f : X → ℕ) (xs : List X) (old : List Bool) where
   -- all are marked
   pub Marks-all : (i : ℕ) (row : List Bool) → length xs ≤ i → Marks (map f (take i xs)) old row → Marks (map f xs) old row
   Marks-all i row end m = rw (← take_all i xs end) m
-
-pub new_fits : (vars l : ℕ) → IsNew vars l → variable l < vars + 1
-new_fits vars l new = omega (arith, new.within)
 
 -- ---- against the circuit
 

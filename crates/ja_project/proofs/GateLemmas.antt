@@ -67,10 +67,10 @@ module _ (row : List Bool) where
   holds_gate g e =
       let a = value row g.rhs0 in
       let b = value row g.rhs1 in
-      (any_clause (value row) (negated g.lhs ∷ g.rhs0 ∷ []) ∙ at_left g ∙ ap (λ (v : Bool). not v || (a || false)) e ∙ gate_left a b,
-      any_clause (value row) (negated g.lhs ∷ g.rhs1 ∷ []) ∙ at_right g ∙ ap (λ (v : Bool). not v || (b || false)) e ∙ gate_right a b,
-      any_clause (value row) (g.lhs ∷ negated g.rhs0 ∷ negated g.rhs1 ∷ []) ∙ at_both g ∙ ap (λ (v : Bool). v || (not a || (not b || false))) e ∙ gate_both a b,
-      tt)
+      let left = any_clause (value row) (negated g.lhs ∷ g.rhs0 ∷ []) ∙ at_left g ∙ ap (λ (v : Bool). not v || (a || false)) e ∙ gate_left a b in
+      let right = any_clause (value row) (negated g.lhs ∷ g.rhs1 ∷ []) ∙ at_right g ∙ ap (λ (v : Bool). not v || (b || false)) e ∙ gate_right a b in
+      let both = any_clause (value row) (g.lhs ∷ negated g.rhs0 ∷ negated g.rhs1 ∷ []) ∙ at_both g ∙ ap (λ (v : Bool). v || (not a || (not b || false))) e ∙ gate_both a b in
+      (left, (right, (both, tt)))
 
 -- ---- the gates of the circuit
 

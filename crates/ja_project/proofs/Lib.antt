@@ -8,3 +8,4 @@ pub mod StepLemmas
 pub mod BelowLemmas
 pub mod HeldLemmas
 pub mod NextLemmas
+pub mod CodingLemmas

@@ -1,5 +1,5 @@
 -- What the clauses of a design say of a row with a bit for each variable.
-use Rattle.std.specs.Prelude.{◌≡◌, ◌+◌, ◌↔◌, Bool, true, List, length, All}
+use Rattle.std.specs.Prelude.{◌≡◌, ℕ, ◌+◌, ◌↔◌, Bool, true, List, length, All}
 use Rattle.ja_base.specs.Literals.{value, AllSatisfiedBy}
 use Rattle.ja_base.specs.Valuation.{IsValuation, MeetsConstraints, AssumptionsHold}
 use Rattle.aig_model.specs.Netlist.{Netlist, circuit}

@@ -10,7 +10,6 @@ use aig_model::{AndGate, Design};
 use ja_base::{Clause, ClauseList, Lit, Memory, Row, Var};
 use std::alloc::Global;
 
-#[tactic(auto, using(crate::proofs::ClauseLemmas::clause_is))]
 fn add_clause(alloc: Global, clauses: &mut ClauseList, lits: &[Lit]) -> Result<(), Memory>
     ensures { OnOk result (clauses.new ≡ clauses.old ++ clause_of lits.now ∷ []) }
 {

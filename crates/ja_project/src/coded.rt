@@ -12,7 +12,7 @@ ghost use Rattle.ja_project.specs.Meaning.{CodesSteps, CodesAssumptions};
 
 use crate::clauses::coded_clauses;
 use crate::held::held_literals;
-use crate::nexts::next_table;
+use crate::nexts::{next_table, with_sign_of};
 use aig_model::Task;
 use ja_base::{ClauseList, Lit, Lits, Memory};
 use std::alloc::Global;
@@ -95,7 +95,7 @@ impl Coded {
         ensures below { variable result < self.now.design.vars + 1 }
     {
         let next = self.nexts[lit.var().number() as usize];
-        if lit.is_neg() { next.not() } else { next }
+        with_sign_of(lit, next)
     }
 
     /// The property's bad literal.

@@ -1,7 +1,8 @@
 //! What each latch holds one step later, by its variable.
 
-ghost use Rattle.std.specs.Prelude.{IfOk};
+ghost use Rattle.std.specs.Prelude.{◌≡◌, IfOk};
 ghost use Rattle.aig_model.specs.Netlist.{IsSound};
+ghost use Rattle.ja_project.specs.CodedClauses.{with_sign_of};
 ghost use Rattle.ja_project.specs.Coding.{HasNexts};
 
 use aig_model::Design;
@@ -18,4 +19,11 @@ pub fn next_table(alloc: Global, design: &Design) -> Result<Vec<Lit>, Memory>
         nexts[latch.lit.var().number() as usize] = latch.next;
     }
     Ok(nexts)
+}
+
+/// What a literal over a latch says, where its variable says `next`.
+pub fn with_sign_of(lit: Lit, next: Lit) -> Lit
+    ensures { result ≡ with_sign_of lit next }
+{
+    if lit.is_neg() { next.not() } else { next }
 }
