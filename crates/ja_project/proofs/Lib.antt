@@ -1,0 +1,11 @@
+pub mod EachLemmas
+pub mod SetLemmas
+pub mod ClauseLemmas
+pub mod GateLemmas
+pub mod DefinedLemmas
+pub mod RangeLemmas
+pub mod StepLemmas
+pub mod BelowLemmas
+pub mod HeldLemmas
+pub mod NextLemmas
+pub mod CodingLemmas

@@ -1,0 +1,3 @@
+pub mod CodedClauses
+pub mod Meaning
+pub mod Coding
