@@ -2,7 +2,11 @@
 #![tactic(auto)]
 
 mod answer;
+mod derivation;
+mod place;
 mod sat;
+mod trail;
 
 pub use answer::SatAnswer;
+pub use derivation::Derivation;
 pub use sat::Sat;
