@@ -18,14 +18,15 @@ pub(crate) struct Trail {
 }
 
 impl Model for Trail {
-    ghost use Rattle.std.specs.Prelude.{◌≤◌, vec_capacity};
+    ghost use Rattle.std.specs.Prelude.{◌≤◌, ◌<◌, ◌^◌, vec_capacity};
     ghost use Rattle.sat_plain.specs.Trails.{Assigned, IsTrail, lits_of};
 
     ghost Value = { Assigned };
 
     ghost view = { λ a. record { vars = a.vars; values = a.values.items; places = a.places.items } };
 
-    ghost invariant = { λ a. IsTrail a.vars a.values.items (lits_of a.places.items) × (a.vars ≤ vec_capacity a.places) };
+    ghost invariant = { λ a. IsTrail a.vars a.values.items (lits_of a.places.items) × (a.vars ≤ vec_capacity a.places)
+        × (a.vars < 2 ^ 32) };
 }
 
 impl Trail {
@@ -80,7 +81,7 @@ impl Trail {
     /// The literal becomes true.
     pub(crate) fn push(&mut self, lit: Lit, reason: Option<u32>)
         requires below { variable lit < self.old.vars }
-        requires open { bit self.old.values lit ≡ false }
+        requires unset { bit self.old.values lit ≡ false }
         requires free { bit self.old.values (negated lit) ≡ false }
         ensures vars { self.new.vars ≡ self.old.vars }
         ensures places { self.new.places
