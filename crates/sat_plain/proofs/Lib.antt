@@ -1,3 +1,6 @@
 pub mod Members
 pub mod TrailLemmas
 pub mod DeriveLemmas
+pub mod PlaceLemmas
+pub mod StepLemmas
+pub mod WalkLemmas

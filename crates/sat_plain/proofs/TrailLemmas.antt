@@ -1,5 +1,5 @@
 -- A trail as literals come and go.
-use Rattle.std.proofs.Common.{◌≡◌, ℕ, ◌+◌, ◌*◌, ◌<◌, ◌≤◌, ◌⊎◌, Bool, true, false, List, [], ◌∷◌, ◌++◌, length, get_or, set, map, eqb, zero, suc, inl, inr, refl, sym, subst, ◌∙◌, ap, arith}
+use Rattle.std.proofs.Common.{◌≡◌, ℕ, ◌+◌, ◌*◌, ◌%◌, ◌<◌, ◌≤◌, ◌⊎◌, Bool, true, false, List, [], ◌∷◌, ◌++◌, length, get_or, set, map, eqb, zero, suc, inl, inr, refl, sym, subst, ◌∙◌, ap, arith}
 use Rattle.std.specs.List.{All, AllPairs, Contains, IsDistinct, list_any}
 use Rattle.std.proofs.lemmas.Bool.Decides.{nat_tests, eqb_tells, Decides-eqb, Decides-by_or}
 use Rattle.std.proofs.lemmas.List.{get_or-set_same, get_or-set_other, length-set, length-append, length-map, get_or-map, get_or_append_left, get_or_push, get_or_default, map-append}
@@ -10,7 +10,8 @@ use Rattle.std.proofs.lemmas.Map.Steps.{length-le_from_distinct_below}
 use Rattle.ja_base.specs.Literals.{bit, variable, negated}
 use Rattle.ja_base.specs.Clauses.{IsBelow}
 use Rattle.ja_base.proofs.LiteralLemmas.{literal_within, negated_within, variable_negated, negated_twice}
-use Rattle.sat_plain.specs.Trails.{IsTrail, AreApart}
+use Rattle.sat_plain.specs.Trails.{IsTrail, AreApart, IsFull}
+use Rattle.std.proofs.lemmas.Bool.{cases_eq}
 
 pub same_or_negated : (l m : ℕ) → variable m ≡ variable l → (m ≡ l) ⊎ (m ≡ negated l)
 same_or_negated l m e = elim (eqb_tells m l) [ inl same ↦ inl same.1 | inr other ↦ inr (grind (arith, nat_tests)) ]
@@ -132,3 +133,24 @@ popped vars l values lits h =
         h.apart k (length lits) m has.1 (omega arith)
         (ap variable (get_or_append_left lits (l ∷ []) m k has.1 ∙ has.2 ∙ same)
         ∙ sym (ap variable (get_or_push lits l m (length lits) refl)))
+
+-- each variable has a value where one of its two literals is true
+pub full_by_variables : (vars : ℕ) (values : List Bool)
+    → ((var : ℕ) → var < vars → bit values (2 * var) ≡ false → bit values (2 * var + 1) ≡ true) → IsFull vars values
+full_by_variables vars values h = record { other = λ l small f. go l small f (cases_eq (l % 2) 0) }
+  where
+    true_from : (b : Bool) → (b ≡ false → ⊥) → b ≡ true
+    true_from true k = refl
+    true_from false k = absurd (k refl)
+
+    go : (l : ℕ) → variable l < vars → bit values l ≡ false → (l % 2 ≡ 0) ⊎ (l % 2 ≡ 0 → ⊥) → bit values (negated l) ≡ true
+    go l small f (inl even) =
+        let this : l ≡ 2 * variable l = omega arith in
+        let other : negated l ≡ 2 * variable l + 1 = grind (arith, nat_tests) in
+        ap (bit values) other ∙ h (variable l) small (ap (bit values) (sym this) ∙ f)
+    go l small f (inr odd) =
+        let this : l ≡ 2 * variable l + 1 = omega arith in
+        let other : negated l ≡ 2 * variable l = grind (arith, nat_tests) in
+        ap (bit values) other
+        ∙ true_from (bit values (2 * variable l)) (λ e.
+            let t : bit values l ≡ true = ap (bit values) this ∙ h (variable l) small e in cc)

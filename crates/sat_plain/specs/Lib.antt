@@ -1,7 +1,9 @@
 pub mod Answer
 pub mod Ticks
 pub mod Trails
+pub mod Steps
 pub mod Rank
 pub mod Derive
+pub mod Walks
 pub mod Turns
 pub mod Laws

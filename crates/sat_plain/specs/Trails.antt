@@ -1,8 +1,10 @@
 -- Literals in the order in which they became true, and the clauses that force them.
-use Rattle.std.specs.Prelude.{◌≡◌, ℕ, ◌*◌, ◌<◌, ◌≤◌, ◌++◌, Bool, true, List, map, length, take, slice_index_or, Some, is_none, Contains, []}
-use Rattle.std.specs.List.{AllPairs}
+use Rattle.std.specs.Prelude.{◌≡◌, ℕ, ◌*◌, ◌<◌, ◌≤◌, ◌++◌, Bool, true, false, List, map, length, take, slice_get, Some, is_none, Contains}
+use Rattle.std.specs.List.{All, AllPairs}
 use Rattle.ja_base.specs.Literals.{bit, variable, negated}
 use Rattle.ja_base.specs.Clauses.{IsBelow}
+use Rattle.refute_check.specs.Lines.{found_of, open_lits}
+use Rattle.refute_check.specs.declared.found.Found.TheVariants.{Other}
 use Rattle.sat_plain.specs.declared.place.Place.{Place}
 
 -- a bit for each literal, set where it is true, and the places in order
@@ -43,15 +45,24 @@ pub record IsReason (lits : List ℕ) (l : ℕ) (clause : List ℕ) : Type 0 whe
 
 -- the clause of number n forces l
 pub record IsForcedBy (clauses : List (List ℕ)) (lits : List ℕ) (l n : ℕ) : Type 0 where
-  pub within : n < length clauses
-  pub reason : IsReason lits l (slice_index_or clauses n [])
+  pub clause : List ℕ
+  pub is : slice_get clauses n ≡ Some clause
+  pub reason : IsReason lits l clause
 
 -- each place that was not decided is forced by its clause and the places before it
 pub record AreForced (clauses : List (List ℕ)) (places : List Place) : Type 0 where
-  pub at : (p n : ℕ) (d : Place) → p < length places → (slice_index_or places p d).reason ≡ Some n
-      → IsForcedBy clauses (take p (lits_of places)) (slice_index_or places p d).lit n
+  pub at : (p n : ℕ) (place : Place) → slice_get places p ≡ Some place → place.reason ≡ Some n
+      → IsForcedBy clauses (take p (lits_of places)) place.lit n
 
 -- more places came after these
 pub record IsGrown (before after : List Place) : Type 0 where
   pub more : List Place
   pub is : after ≡ before ++ more
+
+-- each variable has a value
+pub record IsFull (vars : ℕ) (values : List Bool) : Type 0 where
+  pub other : (l : ℕ) → variable l < vars → bit values l ≡ false → bit values (negated l) ≡ true
+
+-- no clause is false, or forces a literal
+abbrev pub IsQuiet : List (List ℕ) → List Bool → Type 0
+IsQuiet clauses values = All (λ clause. found_of values (open_lits values clause) ≡ Other) clauses

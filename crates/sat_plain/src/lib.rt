@@ -4,8 +4,10 @@
 mod answer;
 mod derivation;
 mod place;
+mod propagate;
 mod sat;
 mod trail;
+mod walk;
 
 pub use answer::SatAnswer;
 pub use derivation::Derivation;

@@ -1,6 +1,6 @@
 //! The literals that are true, in the order in which they became so.
 
-ghost use Rattle.std.specs.Prelude.{◌≡◌, ℕ, ◌+◌, ◌*◌, ◌<◌, ◌≤◌, ◌-◌, [], ◌∷◌, ◌++◌, Bool, false, true, length, take, slice_get, Some, IfOk, IfSome, IfNone};
+ghost use Rattle.std.specs.Prelude.{◌≡◌, ℕ, ◌+◌, ◌*◌, ◌^◌, ◌<◌, ◌≤◌, ◌-◌, [], ◌∷◌, ◌++◌, Bool, false, true, length, take, slice_get, Some, IfOk, IfSome, IfNone};
 ghost use Rattle.ja_base.specs.Literals.{bit, variable, negated};
 ghost use Rattle.sat_plain.specs.Trails.{IsTrail, lits_of};
 
@@ -18,7 +18,7 @@ pub(crate) struct Trail {
 }
 
 impl Model for Trail {
-    ghost use Rattle.std.specs.Prelude.{◌≤◌, ◌<◌, ◌^◌, vec_capacity};
+    ghost use Rattle.std.specs.Prelude.{◌≤◌, ◌^◌, vec_capacity};
     ghost use Rattle.sat_plain.specs.Trails.{Assigned, IsTrail, lits_of};
 
     ghost Value = { Assigned };
@@ -26,12 +26,13 @@ impl Model for Trail {
     ghost view = { λ a. record { vars = a.vars; values = a.values.items; places = a.places.items } };
 
     ghost invariant = { λ a. IsTrail a.vars a.values.items (lits_of a.places.items) × (a.vars ≤ vec_capacity a.places)
-        × (a.vars < 2 ^ 32) };
+        × (a.vars ≤ 2 ^ 31) };
 }
 
 impl Trail {
     /// No literal is true.
     pub(crate) fn new(alloc: Global, vars: u32) -> Result<Trail, Memory>
+        requires { vars ≤ 2 ^ 31 }
         ensures vars { IfOk result (λ trail. trail.vars ≡ vars) }
         ensures places { IfOk result (λ trail. trail.places ≡ []) }
     {
@@ -116,6 +117,7 @@ impl Trail {
     pub(crate) fn unset(&self) -> Option<Var>
         ensures var { IfSome result (λ var. (var < self.now.vars)
             × (bit self.now.values (2 * var) ≡ false) × (bit self.now.values (2 * var + 1) ≡ false)) }
+        ensures small { IfSome result (λ var. var < 2 ^ 31) }
         ensures full { IfNone result ((var : ℕ) → var < self.now.vars
             → bit self.now.values (2 * var) ≡ false → bit self.now.values (2 * var + 1) ≡ true) }
     {
