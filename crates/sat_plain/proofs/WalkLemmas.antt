@@ -1,5 +1,5 @@
 -- The highest decision that a walk kept.
-use Rattle.std.proofs.Common.{◌≡◌, ℕ, ◌+◌, ◌<◌, ◌≤◌, Bool, List, [], ◌∷◌, ◌++◌, length, get_or, take, Option, Some, None, unwrap_or, slice_get, inl, inr, refl, sym, subst, ◌∙◌, ap, arith}
+use Rattle.std.proofs.Common.{◌≡◌, ℕ, ◌+◌, ◌*◌, ◌<◌, ◌≤◌, Bool, List, [], ◌∷◌, ◌++◌, length, get_or, take, Option, Some, None, unwrap_or, slice_get, inl, inr, refl, sym, subst, ◌∙◌, ap, arith}
 use Rattle.std.specs.List.{All, Contains}
 use Rattle.std.proofs.lemmas.List.{length-take, get_or-take}
 use Rattle.std.proofs.lemmas.Option.{get_or_from_slice_get, slice_get_within, same_Some, slice_get-get_or}
@@ -86,3 +86,23 @@ last_set places p lits clause (Some q) set_of h =
 
 pub walked_of : (vars : ℕ) (values : List Bool) (lits : List ℕ) → IsTrail vars values lits → IsWalked vars lits
 walked_of vars values lits is = record { below = is.below; apart = is.apart }
+
+pub place_below : (vars : ℕ) (values : List Bool) (places : List Place) (p : ℕ) (place : Place)
+    → IsTrail vars values (lits_of places) → slice_get places p ≡ Some place → variable place.lit < vars
+place_below vars values places p place is e =
+    let f : slice_get (lits_of places) p ≡ Some place.lit = lits_at places p place e in
+    let P : ℕ → Type 0 = λ k. variable k < vars in
+    let b = is.below in
+    subst P (get_or_from_slice_get (lits_of places) p place.lit place.lit f)
+    (b p place.lit (slice_get_within (lits_of places) p place.lit f))
+
+pub spans_of : (vars n : ℕ) (clause : List ℕ) → n ≡ 2 * vars → IsBelow vars clause → Spans n clause
+spans_of vars n clause e below = λ k d less.
+    let small : variable (get_or clause k d) < vars = below k d less in
+    (omega (arith, literal_within (get_or clause k d) vars small), omega (arith, negated_within (get_or clause k d) vars small))
+
+pub below_at : (vars : ℕ) (list : List (List ℕ)) (n : ℕ) (clause : List ℕ) → All (IsBelow vars) list
+    → slice_get list n ≡ Some clause → IsBelow vars clause
+below_at vars list n clause all e =
+    let P : List ℕ → Type 0 = IsBelow vars in
+    subst P (get_or_from_slice_get list n clause clause e) (all n clause (slice_get_within list n clause e))

@@ -54,7 +54,8 @@ impl Trail {
 
     pub(crate) fn place(&self, at: u32) -> &Place
         requires { at < length self.now.places }
-        ensures { slice_get self.now.places at ≡ Some result.now }
+        ensures value { slice_get self.now.places at ≡ Some result.now }
+        ensures is { IsTrail self.now.vars self.now.values (lits_of self.now.places) }
     {
         &self.places[at as usize]
     }
