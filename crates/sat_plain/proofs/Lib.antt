@@ -4,3 +4,5 @@ pub mod DeriveLemmas
 pub mod PlaceLemmas
 pub mod StepLemmas
 pub mod WalkLemmas
+pub mod RankLemmas
+pub mod TurnLemmas

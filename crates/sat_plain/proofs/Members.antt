@@ -1,7 +1,7 @@
 -- Members of lists.
 use Rattle.std.proofs.Common.{◌≡◌, ℕ, ◌+◌, ◌-◌, ◌<◌, ◌≤◌, ◌⊎◌, List, [], ◌∷◌, ◌++◌, length, get_or, take, drop, map, zero, suc, Some, slice_get, inl, inr, refl, sym, subst, ◌∙◌, ap, arith}
 use Rattle.std.specs.List.{Contains}
-use Rattle.std.proofs.lemmas.List.{take_more, drop_more, get_or-take, get_or-drop, get_or_default, length-take, length-drop}
+use Rattle.std.proofs.lemmas.List.{take_more, drop_more, get_or-take, get_or-drop, get_or_default, length-take, length-drop, take-append-drop}
 use Rattle.std.proofs.lemmas.Option.{get_or_from_slice_get, slice_get_within}
 use Rattle.std.proofs.lemmas.List.Elements.{Contains-push, Contains-push_cases, Contains-append_left, Contains-get_or}
 
@@ -66,3 +66,9 @@ dropped_at xs p m h =
 
 pub taken_is_on : (xs : List ℕ) (p m : ℕ) → Contains (take p xs) m → Contains xs m
 taken_is_on xs p m h = let r = taken_at xs p m h in (r.0, r.2, r.3)
+
+pub split_at : {X : Type 0} (xs : List X) (p : ℕ) (x : X) → slice_get xs p ≡ Some x → xs ≡ take p xs ++ x ∷ drop (p + 1) xs
+split_at xs p x e =
+    sym (take-append-drop p xs)
+    ∙ ap (λ v. take p xs ++ v) (drop_more xs p x (slice_get_within xs p x e)
+    ∙ ap (λ k. k ∷ drop (p + 1) xs) (get_or_from_slice_get xs p x x e))

@@ -1,5 +1,5 @@
 -- A trail as literals come and go.
-use Rattle.std.proofs.Common.{◌≡◌, ℕ, ◌+◌, ◌*◌, ◌%◌, ◌<◌, ◌≤◌, ◌⊎◌, Bool, true, false, List, [], ◌∷◌, ◌++◌, length, get_or, set, map, eqb, zero, suc, inl, inr, refl, sym, subst, ◌∙◌, ap, arith}
+use Rattle.std.proofs.Common.{◌≡◌, ℕ, ◌+◌, ◌*◌, ◌%◌, ◌<◌, ◌≤◌, ◌⊎◌, Bool, true, false, List, [], ◌∷◌, ◌++◌, length, get_or, set, map, take, eqb, Some, slice_get, zero, suc, inl, inr, refl, sym, subst, ◌∙◌, ap, arith}
 use Rattle.std.specs.List.{All, AllPairs, Contains, IsDistinct, list_any}
 use Rattle.std.proofs.lemmas.Bool.Decides.{nat_tests, eqb_tells, Decides-eqb, Decides-by_or}
 use Rattle.std.proofs.lemmas.List.{get_or-set_same, get_or-set_other, length-set, length-append, length-map, get_or-map, get_or_append_left, get_or_push, get_or_default, map-append}
@@ -11,7 +11,9 @@ use Rattle.ja_base.specs.Literals.{bit, variable, negated}
 use Rattle.ja_base.specs.Clauses.{IsBelow}
 use Rattle.ja_base.proofs.LiteralLemmas.{literal_within, negated_within, variable_negated, negated_twice}
 use Rattle.sat_plain.specs.Trails.{IsTrail, AreApart, IsFull}
-use Rattle.std.proofs.lemmas.Bool.{cases_eq}
+use Rattle.std.proofs.lemmas.Bool.{cases_eq, false_from_ne_true}
+use Rattle.std.proofs.lemmas.Option.{get_or_from_slice_get, slice_get_within}
+use Rattle.sat_plain.proofs.Members.{taken_at}
 
 pub same_or_negated : (l m : ℕ) → variable m ≡ variable l → (m ≡ l) ⊎ (m ≡ negated l)
 same_or_negated l m e = elim (eqb_tells m l) [ inl same ↦ inl same.1 | inr other ↦ inr (grind (arith, nat_tests)) ]
@@ -154,3 +156,13 @@ full_by_variables vars values h = record { other = λ l small f. go l small f (c
         ap (bit values) other
         ∙ true_from (bit values (2 * variable l)) (λ e.
             let t : bit values l ≡ true = ap (bit values) this ∙ h (variable l) small e in cc)
+
+-- once the places from p on are gone, no literal of the variable that stood at p is true
+pub unset_after : (vars p l m : ℕ) (values left : List Bool) (lits : List ℕ) → IsTrail vars values lits
+    → slice_get lits p ≡ Some l → IsTrail vars left (take p lits) → variable m ≡ variable l → bit left m ≡ false
+unset_after vars p l m values left lits is there now e =
+    false_from_ne_true (bit left m) (λ t.
+        let r = taken_at lits p m (now.only m t) in
+        let apart = is.apart in
+        apart r.0 p m r.1 (slice_get_within lits p l there)
+        (ap variable r.3 ∙ e ∙ sym (ap variable (get_or_from_slice_get lits p l m there))))

@@ -6,4 +6,6 @@ pub mod Rank
 pub mod Derive
 pub mod Walks
 pub mod Turns
+pub mod Payments
+pub mod Outcomes
 pub mod Laws

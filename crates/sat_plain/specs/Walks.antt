@@ -21,3 +21,8 @@ IsLast places p lits (Some q) = (p ≤ q) × IsCut places q lits
 pub record IsWalking (vars : ℕ) (clauses : List (List ℕ)) (places : List Place) (p : ℕ) (d : Derived) (last : Option ℕ) : Type 0 where
   pub derived : IsDerived vars clauses (lits_of places) p d
   pub highest : IsLast places p d.lits last
+
+-- whether the highest decision that was kept stands above the lowest places, `assumed` many
+abbrev pub IsAbove : Option ℕ → ℕ → Option ℕ → Type 0
+IsAbove last assumed None = (q : ℕ) → last ≡ Some q → q < assumed
+IsAbove last assumed (Some q) = (last ≡ Some q) × (assumed ≤ q)

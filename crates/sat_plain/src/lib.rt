@@ -3,10 +3,15 @@
 
 mod answer;
 mod derivation;
+mod learn;
+mod pay;
 mod place;
 mod propagate;
+mod query;
 mod sat;
+mod search;
 mod trail;
+mod turn;
 mod walk;
 
 pub use answer::SatAnswer;

@@ -88,6 +88,7 @@ impl Trail {
         ensures vars { self.new.vars ≡ self.old.vars }
         ensures places { self.new.places
             ≡ self.old.places ++ record { lit = lit; reason = reason } ∷ [] }
+        ensures is { IsTrail self.new.vars self.new.values (lits_of self.new.places) }
     {
         self.values[lit.number() as usize] = true;
         self.places.push_reserved(Place { lit, reason });
@@ -108,6 +109,7 @@ impl Trail {
     pub(crate) fn undo(&mut self, to: u32)
         ensures vars { self.new.vars ≡ self.old.vars }
         ensures places { self.new.places ≡ take to self.old.places }
+        ensures is { IsTrail self.new.vars self.new.values (lits_of self.new.places) }
     {
         while self.len() > to {
             self.pop();
@@ -121,6 +123,7 @@ impl Trail {
         ensures small { IfSome result (λ var. var < 2 ^ 31) }
         ensures full { IfNone result ((var : ℕ) → var < self.now.vars
             → bit self.now.values (2 * var) ≡ false → bit self.now.values (2 * var + 1) ≡ true) }
+        ensures is { IsTrail self.now.vars self.now.values (lits_of self.now.places) }
     {
         for var in 0..self.vars {
             let lit = 2 * var as usize;
@@ -136,6 +139,7 @@ impl Trail {
         ensures width { IfOk result (λ row. length row ≡ self.now.vars) }
         ensures bits { IfOk result (λ row. (var : ℕ) → var < self.now.vars
             → bit row var ≡ bit self.now.values (2 * var)) }
+        ensures is { IsTrail self.now.vars self.now.values (lits_of self.now.places) }
     {
         let mut row = Row::zeros(alloc, self.vars)?;
         for var in 0..self.vars {

@@ -1,39 +1,54 @@
-use Rattle.std.proofs.Common.{◌≡◌, ℕ, ◌+◌, ◌<◌, ◌≤◌, Bool, true, false, List, [], ◌∷◌, ◌++◌, length, set, sym, subst, ◌∙◌, ap, arith}
-use Rattle.std.proofs.lemmas.List.{length-map, map_push, length-append}
+use Rattle.std.proofs.Common.{◌≡◌, ℕ, ◌+◌, ◌<◌, ◌≤◌, Bool, true, false, List, [], ◌∷◌, ◌++◌, length, set, refl, sym, subst, ◌∙◌, ap, arith}
+use Rattle.std.proofs.lemmas.List.{length_push}
 use Rattle.ja_base.specs.Literals.{bit, variable, negated}
 use Rattle.sat_plain.specs.declared.place.Place.{Place}
 use Rattle.sat_plain.specs.Trails.{Assigned, IsTrail, lits_of}
 use Rattle.sat_plain.proofs.TrailLemmas.{pushed}
+use Rattle.sat_plain.proofs.PlaceLemmas.{lits_push, lits_length}
 use Rattle.sat_plain.proofs.trail.Trail.push.Goals as goal
+
+-- the trail with its values and places as the code reads them
+is_pushed : (before : Assigned) (n l k : ℕ) (values : List Bool) (places news : List Place) (place : Place) → n ≡ before.vars
+    → values ≡ before.values → k ≡ l → news ≡ places ++ place ∷ [] → place.lit ≡ l → variable l < before.vars
+    → bit before.values l ≡ false → bit before.values (negated l) ≡ false → IsTrail n values (lits_of places)
+    → IsTrail n (set values k true) (lits_of news)
+is_pushed before n l k values places news place vars row at more lit small unset free is =
+    let P : ℕ → Type 0 = λ m. IsTrail n (set values m true) (lits_of news) in
+    let Q : List ℕ → Type 0 = IsTrail n (set values l true) in
+    let below : variable l < n = omega arith in
+    subst P (sym at) (subst Q (sym (ap lits_of more ∙ lits_push places place ∙ ap (λ m. lits_of places ++ m ∷ []) lit))
+    (pushed n l values (lits_of places) below (ap (λ v. bit v l) row ∙ unset) (ap (λ v. bit v (negated l)) row ∙ free) is))
 
 pub push_reserved-requires : goal.push_reserved-requires
 push_reserved-requires c =
-    let values : List Bool = c.self.inside.values.items in
     let places : List Place = c.self.inside.places.items in
-    let n : ℕ = c.self.inside.vars in
-    let vars : n ≡ c.args.self.now.vars = ap (λ (a : Assigned). a.vars) c.self.view_is in
-    let row : values ≡ c.args.self.now.values = ap (λ (a : Assigned). a.values) c.self.view_is in
-    let small : variable c.args.lit < n = let b = c.requires.below in omega arith in
-    let is : IsTrail n (set values c.args.lit true) (lits_of places ++ c.args.lit ∷ []) =
-    pushed n c.args.lit values (lits_of places) small (ap (λ v. bit v c.args.lit) row ∙ c.requires.unset)
-    (ap (λ v. bit v (negated c.args.lit)) row ∙ c.requires.free) c.self.invariant.0 in
-    let s = is.short in
-    omega (arith, length-map places (λ p. p.lit), length-append (lits_of places) (c.args.lit ∷ []), c.self.invariant.1)
+    let place : Place = record { lit = c.args.lit; reason = c.args.reason } in
+    let is =
+    is_pushed c.args.self.now c.self.inside.vars c.args.lit c.args.lit c.self.inside.values.items places
+    (places ++ place ∷ []) place (ap (λ (a : Assigned). a.vars) c.self.view_is) (ap (λ (a : Assigned). a.values) c.self.view_is)
+    (refl) (refl) (refl) c.requires.below c.requires.unset c.requires.free c.self.invariant.0 in
+    let short = is.short in
+    omega (arith, lits_length (places ++ place ∷ []), length_push places place, c.self.invariant.1)
 
 pub invariant_of-self : goal.invariant_of-self
 invariant_of-self c =
-    let values : List Bool = c.self.inside.values.items in
     let places : List Place = c.self.inside.places.items in
-    let n : ℕ = c.self.inside.vars in
-    let vars : n ≡ c.args.self.now.vars = ap (λ (a : Assigned). a.vars) c.self.view_is in
-    let row : values ≡ c.args.self.now.values = ap (λ (a : Assigned). a.values) c.self.view_is in
-    let small : variable c.args.lit < n = let b = c.requires.below in omega arith in
-    let is : IsTrail n (set values c.args.lit true) (lits_of places ++ c.args.lit ∷ []) =
-    pushed n c.args.lit values (lits_of places) small (ap (λ v. bit v c.args.lit) row ∙ c.requires.unset)
-    (ap (λ v. bit v (negated c.args.lit)) row ∙ c.requires.free) c.self.invariant.0 in
-    let lits : lits_of c.push_reserved.new.self.items ≡ lits_of places ++ c.args.lit ∷ [] =
-    ap lits_of c.push_reserved.ensures.items ∙ map_push (λ (p : Place). p.lit) places (record { lit = c.args.lit; reason = c.args.reason }) in
-    let P : List ℕ → Type 0 = λ v. IsTrail n (set values c.args.lit true) v in
-    let Q : ℕ → Type 0 = λ k. IsTrail n (set values k true) (lits_of c.push_reserved.new.self.items) in
-    let room : n ≤ c.push_reserved.new.self.cap = let e = c.push_reserved.ensures.capacity in let r = c.self.invariant.1 in omega arith in
-    (subst Q (sym c.number.ensures) (subst P (sym lits) is), room, c.self.invariant.2)
+    let place : Place = record { lit = c.args.lit; reason = c.args.reason } in
+    let room : c.self.inside.vars ≤ c.push_reserved.new.self.cap =
+    let e = c.push_reserved.ensures.capacity in let r = c.self.invariant.1 in omega arith in
+    (
+      is_pushed c.args.self.now c.self.inside.vars c.args.lit c.number.result c.self.inside.values.items places
+      c.push_reserved.new.self.items place (ap (λ (a : Assigned). a.vars) c.self.view_is)
+      (ap (λ (a : Assigned). a.values) c.self.view_is) c.number.ensures c.push_reserved.ensures.items refl c.requires.below
+      c.requires.unset c.requires.free c.self.invariant.0,
+      room,
+      c.self.invariant.2,
+    )
+
+pub returns-clause-is : goal.returns-clause-is
+returns-clause-is c =
+    let place : Place = record { lit = c.args.lit; reason = c.args.reason } in
+    is_pushed c.args.self.now c.self.inside.vars c.args.lit c.number.result c.self.inside.values.items
+    c.self.inside.places.items c.push_reserved.new.self.items place (ap (λ (a : Assigned). a.vars) c.self.view_is)
+    (ap (λ (a : Assigned). a.values) c.self.view_is) c.number.ensures c.push_reserved.ensures.items refl c.requires.below
+    c.requires.unset c.requires.free c.self.invariant.0
