@@ -6,3 +6,5 @@ pub mod StepLemmas
 pub mod WalkLemmas
 pub mod RankLemmas
 pub mod TurnLemmas
+pub mod ModelLemmas
+pub mod SearchLemmas
