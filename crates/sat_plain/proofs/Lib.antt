@@ -8,3 +8,4 @@ pub mod RankLemmas
 pub mod TurnLemmas
 pub mod ModelLemmas
 pub mod SearchLemmas
+pub mod StartLemmas

@@ -8,4 +8,6 @@ pub mod Walks
 pub mod Turns
 pub mod Payments
 pub mod Outcomes
+pub mod Starts
+pub mod Solvers
 pub mod Laws

@@ -75,7 +75,8 @@ impl Trail {
 
     pub(crate) fn is_true(&self, lit: Lit) -> bool
         requires { variable lit < self.now.vars }
-        ensures { result ≡ bit self.now.values lit }
+        ensures value { result ≡ bit self.now.values lit }
+        ensures is { IsTrail self.now.vars self.now.values (lits_of self.now.places) }
     {
         self.values[lit.number() as usize]
     }
