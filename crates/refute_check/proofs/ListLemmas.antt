@@ -48,7 +48,7 @@ fit_below vars clause e =
     left true b e = refl
     left false b e = e
 
-accepted_below : (vars : ℕ) (clauses : List (List ℕ)) (clause hints : List ℕ)
+pub accepted_below : (vars : ℕ) (clauses : List (List ℕ)) (clause hints : List ℕ)
     → refusal vars clauses clause hints ≡ None → IsBelow vars clause
 accepted_below vars clauses clause hints e = fit_below vars clause (go (is_fit vars clause) e)
   where

@@ -15,5 +15,8 @@ mod propagate;
 mod tests;
 
 pub use checker::{Checker, LineRefused};
+pub use found::Found;
 pub use laws::{accepted_lines_hold, what_is_covered_is_refuted};
 pub use lines::{Hints, Line, Lines, Proofs, Refuted};
+pub use numbered::Numbered;
+pub use propagate::{assume, scan};

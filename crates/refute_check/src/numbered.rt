@@ -1,6 +1,6 @@
 //! Clauses by number, each added or the clause of an accepted line.
 
-ghost use Rattle.std.specs.Prelude.{◌≡◌, ◌+◌, ◌-◌, ◌^◌, ◌<◌, ◌≤◌, [], ◌∷◌, ◌++◌, length, take, slice_get, IfOk, OnOk, OnErr};
+ghost use Rattle.std.specs.Prelude.{◌≡◌, ◌+◌, ◌-◌, ◌^◌, ◌<◌, ◌≤◌, [], ◌∷◌, ◌++◌, length, take, slice_get, Some, IfOk, OnOk, OnErr};
 ghost use Rattle.refute_check.specs.Checked.{Adds};
 ghost use Rattle.std.specs.Option.{option_copied};
 
@@ -10,7 +10,7 @@ use std::marker::Model;
 
 /// At most 2^32 - 1 clauses, with the places of the added ones.
 #[derive(Debug, Drop)]
-pub(crate) struct Numbered {
+pub struct Numbered {
     clauses: Vec<Clause>,
     added: Vec<u32>,
     kept: usize,
@@ -34,7 +34,7 @@ impl Model for Numbered {
 }
 
 impl Numbered {
-    pub(crate) fn new(alloc: Global) -> Numbered
+    pub fn new(alloc: Global) -> Numbered
         ensures { result ≡ record { list = []; spare = 0; added = []; kept = 0 } }
     {
         Numbered {
@@ -44,26 +44,33 @@ impl Numbered {
         }
     }
 
-    pub(crate) fn len(&self) -> u32
+    pub fn len(&self) -> u32
         ensures { result ≡ length self.now.list }
     {
         self.clauses.len() as u32
     }
 
-    pub(crate) fn get(&self, at: u32) -> Option<&Clause>
+    pub fn get(&self, at: u32) -> Option<&Clause>
         ensures { option_copied result ≡ slice_get self.now.list at }
     {
         self.clauses.as_slice().get(at as usize)
     }
 
-    pub(crate) fn as_slice(&self) -> &[Clause]
+    pub fn clause(&self, at: u32) -> &Clause
+        requires { at < length self.now.list }
+        ensures { slice_get self.now.list at ≡ Some result.now }
+    {
+        &self.clauses[at as usize]
+    }
+
+    pub fn as_slice(&self) -> &[Clause]
         ensures { result.now ≡ self.now.list }
     {
         self.clauses.as_slice()
     }
 
     /// The clause of an accepted line takes the next number.
-    pub(crate) fn put(&mut self, clause: Clause)
+    pub fn put(&mut self, clause: Clause)
         requires { 0 < self.old.spare }
         ensures { self.new ≡ record self.old { list = self.old.list ++ clause ∷ []; spare = self.old.spare - 1 } }
     {
@@ -71,7 +78,7 @@ impl Numbered {
     }
 
     /// An added clause takes the next number.
-    pub(crate) fn add(&mut self, clause: Clause) -> Result<u32, Memory>
+    pub fn add(&mut self, clause: Clause) -> Result<u32, Memory>
         ensures number { IfOk result (λ n. n ≡ length self.old.list) }
         ensures ok { OnOk result (Adds self.old clause self.new) }
         ensures err { OnErr result (self.new ≡ self.old) }
@@ -89,7 +96,7 @@ impl Numbered {
     }
 
     /// Makes room for so many more clauses.
-    pub(crate) fn reserve(&mut self, lines: u32) -> Result<(), Memory>
+    pub fn reserve(&mut self, lines: u32) -> Result<(), Memory>
         ensures ok { OnOk result (lines ≤ self.new.spare) }
         ensures same { self.new ≡ record self.old { spare = self.new.spare } }
         ensures room { self.old.spare ≤ self.new.spare }
@@ -103,7 +110,7 @@ impl Numbered {
     }
 
     /// Drops the lines that came after the last added clause.
-    pub(crate) fn keep(&mut self)
+    pub fn keep(&mut self)
         ensures { self.new ≡ record self.old {
           list = take self.old.kept self.old.list;
           spare = self.old.spare + (length self.old.list - self.old.kept);

@@ -39,7 +39,8 @@ fn scan_open(values: &[bool], lit: Lit, later: &[Lit]) -> Found
     }
 }
 
-pub(crate) fn scan(values: &[bool], lits: &[Lit]) -> Found
+/// What is known of a clause of these literals.
+pub fn scan(values: &[bool], lits: &[Lit]) -> Found
     requires { Spans (length values.now) lits.now }
     ensures value { result ≡ found_of values.now (open_lits values.now lits.now) }
     ensures within { IfForces result (λ l. l < length values.now) }
@@ -82,7 +83,7 @@ pub(crate) fn follow(values: &mut [bool], clauses: &Numbered, hints: &[u32]) -> 
 }
 
 /// Makes each literal false.
-pub(crate) fn assume(values: &mut [bool], lits: &[Lit])
+pub fn assume(values: &mut [bool], lits: &[Lit])
     requires { Spans (length values.old) lits.now }
     ensures { values.new ≡ assumed lits.now values.old }
 {

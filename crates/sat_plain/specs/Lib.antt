@@ -1,0 +1,13 @@
+pub mod Answer
+pub mod Ticks
+pub mod Trails
+pub mod Steps
+pub mod Rank
+pub mod Derive
+pub mod Walks
+pub mod Turns
+pub mod Payments
+pub mod Outcomes
+pub mod Starts
+pub mod Solvers
+pub mod Laws

@@ -1,0 +1,26 @@
+//! Solvers of clauses. What a query answers stands in `specs/Answer`, and what it ticks in `specs/Ticks`; `specs/Derive`
+//! says how a line is derived from a conflict, and `specs/Rank` why a search ends.
+#![tactic(auto)]
+
+mod answer;
+mod ask;
+mod derivation;
+mod laws;
+mod learn;
+mod pay;
+mod place;
+mod plain;
+mod propagate;
+mod query;
+mod sat;
+mod search;
+mod start;
+mod trail;
+mod turn;
+mod walk;
+
+pub use answer::SatAnswer;
+pub use derivation::Derivation;
+pub use laws::what_is_answered_is_refuted;
+pub use plain::PlainSat;
+pub use sat::Sat;

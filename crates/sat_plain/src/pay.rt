@@ -1,0 +1,41 @@
+//! A unit of the budget, and a poll of the flag.
+
+ghost use Rattle.std.specs.Prelude.{◌≡◌, ◌≤◌, IsTrue};
+ghost use Rattle.ja_outside.specs.Faults.{Rose};
+ghost use Rattle.sat_plain.specs.Ticks.{TicksAtMost, IsLater};
+ghost use Rattle.sat_plain.specs.Payments.{IsPaid, OnPaymentStopped};
+
+use ja_base::Meter;
+use ja_outside::Flag;
+
+/// Whether the search may go on.
+#[derive(Clone, Copy, Debug)]
+pub(crate) enum Payment {
+    Paid,
+    /// The meter's limit is reached.
+    Spent,
+    /// The flag was found raised.
+    Stopped,
+}
+
+/// Ticks first, and polls the flag only behind a unit that was spent.
+pub(crate) fn pay<F: Flag>(meter: &mut Meter, flag: &mut F) -> Payment
+    ensures paid { IsPaid meter.old meter.new result }
+    ensures later { IsLater meter.old meter.new }
+    ensures bounded { TicksAtMost meter.old meter.new 1 }
+    ensures stopped { OnPaymentStopped result (Rose (F.raised flag.old) (F.raised flag.new)) }
+    ensures may_stop { OnPaymentStopped result (IsTrue (F.may_rise flag.old)) }
+    ensures flag_kept { F.may_rise flag.new ≡ F.may_rise flag.old }
+    ensures flag_later { F.raised flag.old ≤ F.raised flag.new }
+{
+    match meter.tick() {
+        Err(_) => Payment::Spent,
+        Ok(()) => {
+            if flag.poll() {
+                Payment::Stopped
+            } else {
+                Payment::Paid
+            }
+        }
+    }
+}

@@ -1,0 +1,153 @@
+//! The literals that are true, in the order in which they became so.
+
+ghost use Rattle.std.specs.Prelude.{◌≡◌, ℕ, ◌+◌, ◌*◌, ◌^◌, ◌<◌, ◌≤◌, ◌-◌, [], ◌∷◌, ◌++◌, Bool, false, true, length, take, slice_get, Some, IfOk, IfSome, IfNone};
+ghost use Rattle.ja_base.specs.Literals.{bit, variable, negated};
+ghost use Rattle.sat_plain.specs.Trails.{IsTrail, lits_of};
+
+use crate::place::Place;
+use ja_base::{Lit, Memory, Row, Var};
+use std::alloc::Global;
+use std::marker::Model;
+
+/// A bit for each literal, set where it is true, and the places in order.
+#[derive(Debug, Drop)]
+pub(crate) struct Trail {
+    vars: u32,
+    values: Vec<bool>,
+    places: Vec<Place>,
+}
+
+impl Model for Trail {
+    ghost use Rattle.std.specs.Prelude.{◌≤◌, ◌^◌, vec_capacity};
+    ghost use Rattle.sat_plain.specs.Trails.{Assigned, IsTrail, lits_of};
+
+    ghost Value = { Assigned };
+
+    ghost view = { λ a. record { vars = a.vars; values = a.values.items; places = a.places.items } };
+
+    ghost invariant = { λ a. IsTrail a.vars a.values.items (lits_of a.places.items) × (a.vars ≤ vec_capacity a.places)
+        × (a.vars ≤ 2 ^ 31) };
+}
+
+impl Trail {
+    /// No literal is true.
+    pub(crate) fn new(alloc: Global, vars: u32) -> Result<Trail, Memory>
+        requires { vars ≤ 2 ^ 31 }
+        ensures vars { IfOk result (λ trail. trail.vars ≡ vars) }
+        ensures places { IfOk result (λ trail. trail.places ≡ []) }
+    {
+        let values = vec![in alloc; false; 2 * vars as usize]?;
+        let places = Vec::with_capacity(alloc, vars as usize)?;
+        Ok(Trail {
+            vars,
+            values,
+            places,
+        })
+    }
+
+    pub(crate) fn len(&self) -> u32
+        ensures value { result ≡ length self.now.places }
+        ensures is { IsTrail self.now.vars self.now.values (lits_of self.now.places) }
+    {
+        self.places.len() as u32
+    }
+
+    pub(crate) fn place(&self, at: u32) -> &Place
+        requires { at < length self.now.places }
+        ensures value { slice_get self.now.places at ≡ Some result.now }
+        ensures is { IsTrail self.now.vars self.now.values (lits_of self.now.places) }
+    {
+        &self.places[at as usize]
+    }
+
+    pub(crate) fn vars(&self) -> u32
+        ensures { result ≡ self.now.vars }
+    {
+        self.vars
+    }
+
+    pub(crate) fn values(&self) -> &[bool]
+        ensures value { result.now ≡ self.now.values }
+        ensures is { IsTrail self.now.vars self.now.values (lits_of self.now.places) }
+    {
+        self.values.as_slice()
+    }
+
+    pub(crate) fn is_true(&self, lit: Lit) -> bool
+        requires { variable lit < self.now.vars }
+        ensures value { result ≡ bit self.now.values lit }
+        ensures is { IsTrail self.now.vars self.now.values (lits_of self.now.places) }
+    {
+        self.values[lit.number() as usize]
+    }
+
+    /// The literal becomes true.
+    pub(crate) fn push(&mut self, lit: Lit, reason: Option<u32>)
+        requires below { variable lit < self.old.vars }
+        requires unset { bit self.old.values lit ≡ false }
+        requires free { bit self.old.values (negated lit) ≡ false }
+        ensures vars { self.new.vars ≡ self.old.vars }
+        ensures places { self.new.places
+            ≡ self.old.places ++ record { lit = lit; reason = reason } ∷ [] }
+        ensures is { IsTrail self.new.vars self.new.values (lits_of self.new.places) }
+    {
+        self.values[lit.number() as usize] = true;
+        self.places.push_reserved(Place { lit, reason });
+    }
+
+    /// The literal of the last place has no value again.
+    fn pop(&mut self)
+        requires { 0 < length self.old.places }
+        ensures vars { self.new.vars ≡ self.old.vars }
+        ensures places { self.new.places ≡ take (length self.old.places - 1) self.old.places }
+    {
+        if let Some(place) = self.places.pop() {
+            self.values[place.lit.number() as usize] = false;
+        }
+    }
+
+    /// Leaves the first places, so many.
+    pub(crate) fn undo(&mut self, to: u32)
+        ensures vars { self.new.vars ≡ self.old.vars }
+        ensures places { self.new.places ≡ take to self.old.places }
+        ensures is { IsTrail self.new.vars self.new.values (lits_of self.new.places) }
+    {
+        while self.len() > to {
+            self.pop();
+        }
+    }
+
+    /// The first variable that has no value.
+    pub(crate) fn unset(&self) -> Option<Var>
+        ensures var { IfSome result (λ var. (var < self.now.vars)
+            × (bit self.now.values (2 * var) ≡ false) × (bit self.now.values (2 * var + 1) ≡ false)) }
+        ensures small { IfSome result (λ var. var < 2 ^ 31) }
+        ensures full { IfNone result ((var : ℕ) → var < self.now.vars
+            → bit self.now.values (2 * var) ≡ false → bit self.now.values (2 * var + 1) ≡ true) }
+        ensures is { IsTrail self.now.vars self.now.values (lits_of self.now.places) }
+    {
+        for var in 0..self.vars {
+            let lit = 2 * var as usize;
+            if !self.values[lit] && !self.values[lit + 1] {
+                return Some(Var(var));
+            }
+        }
+        None
+    }
+
+    /// The bit of each variable, 0 where it has no value.
+    pub(crate) fn row(&self, alloc: Global) -> Result<Row, Memory>
+        ensures width { IfOk result (λ row. length row ≡ self.now.vars) }
+        ensures bits { IfOk result (λ row. (var : ℕ) → var < self.now.vars
+            → bit row var ≡ bit self.now.values (2 * var)) }
+        ensures is { IsTrail self.now.vars self.now.values (lits_of self.now.places) }
+    {
+        let mut row = Row::zeros(alloc, self.vars)?;
+        for var in 0..self.vars {
+            if self.values[2 * var as usize] {
+                row.set(var, true);
+            }
+        }
+        Ok(row)
+    }
+}
