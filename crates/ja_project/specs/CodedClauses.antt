@@ -55,3 +55,8 @@ pub record IsOverLatch (n : Netlist) (l : ℕ) : Type 0 where
 -- the literal of the same sign over what this literal says
 abbrev pub with_sign_of : ℕ → ℕ → ℕ
 with_sign_of l next = if is_negated l then negated next else next
+
+-- what the literal is one step later: the next literal of its latch, with its sign
+abbrev pub next_literal : List Latch → ℕ → ℕ
+next_literal [] l = 0
+next_literal (k ∷ ks) l = if variable k.lit == variable l then with_sign_of l k.next else next_literal ks l

@@ -1,0 +1,4 @@
+pub mod Closed
+pub mod Start
+pub mod Obligations
+pub mod Refusals
