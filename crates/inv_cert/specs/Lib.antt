@@ -1,4 +1,0 @@
-pub mod Closed
-pub mod Start
-pub mod Obligations
-pub mod Refusals
