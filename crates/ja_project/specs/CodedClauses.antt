@@ -1,5 +1,5 @@
 -- A design as a list of clauses over its variables, and the literals that say what its task asks.
-use Rattle.std.specs.Prelude.{◌≡◌, ℕ, ◌+◌, ◌==◌, nat_lt, Bool, true, if◌then◌else◌, Some, List, [], ◌∷◌, ◌++◌, length, map, flat_map, slice_get}
+use Rattle.std.specs.Prelude.{◌≡◌, ℕ, ◌==◌, nat_lt, true, if◌then◌else◌, Some, List, [], ◌∷◌, ◌++◌, length, map, flat_map, slice_get}
 use Rattle.std.specs.List.{range_with_len}
 use Rattle.ja_base.specs.Literals.{bit, variable, is_negated, negated, literal_of}
 use Rattle.ja_base.specs.Circuit.{bad_literal, is_defined}
