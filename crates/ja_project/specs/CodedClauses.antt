@@ -52,6 +52,6 @@ pub record IsOverLatch (n : Netlist) (l : ℕ) : Type 0 where
   pub latch_is : slice_get n.latches place ≡ Some latch
   pub var_is : variable latch.lit ≡ variable l
 
--- the literal of the same sign over what this literal says
+-- the next literal of a latch, negated where the literal over the latch is
 abbrev pub with_sign_of : ℕ → ℕ → ℕ
 with_sign_of l next = if is_negated l then negated next else next
