@@ -6,7 +6,7 @@ ghost use Rattle.ja_base.specs.Clauses.{IsBelow};
 ghost use Rattle.ja_base.specs.Invariants.{latch_value};
 ghost use Rattle.ja_base.specs.Valuation.{IsBad, next_state};
 ghost use Rattle.aig_model.specs.declared.netlist.Latch as netlist;
-ghost use Rattle.aig_model.specs.Netlist.{circuit};
+ghost use Rattle.aig_model.specs.Netlist.{IsSound, circuit};
 ghost use Rattle.ja_project.specs.CodedClauses.{IsOverLatch, coded_clauses, held_literals, with_sign_of};
 ghost use Rattle.ja_project.specs.Meaning.{CodesSteps, CodesAssumptions};
 
@@ -62,12 +62,14 @@ impl Coded {
 
     /// The number of variables, M + 1.
     pub fn vars(&self) -> u32
-        ensures { result ≡ self.now.design.vars + 1 }
+        ensures value { result ≡ self.now.design.vars + 1 }
+        ensures sound { IsSound self.now.design }
     {
         self.task.design().vars() + 1
     }
 
-    /// The clauses in the order that is fixed for a design.
+    /// In this order: that the constant is 0, three clauses for each gate in the design's order, that each variable which nothing
+    /// defines is 0, by ascending variable, and that each constraint is 1, in the file's order.
     pub fn clauses(&self) -> &ClauseList
         ensures list { result.now ≡ coded_clauses self.now.design }
         ensures meaning { CodesSteps self.now.design result.now }
