@@ -31,7 +31,7 @@ module _ (vars : ℕ) (values row : List Bool) (lits : List ℕ) (is : IsTrail v
             let other : negated l ≡ 2 * variable l = grind (arith, nat_tests) in
             let gone : bit values (2 * variable l) ≡ false =
             false_from_ne_true (bit values (2 * variable l)) (λ e.
-                one_sign lits l is.apart (is.only l t) (is.only (negated l) (ap (bit values) other ∙ e))) in
+            one_sign lits l is.apart (is.only l t) (is.only (negated l) (ap (bit values) other ∙ e))) in
             ap (λ n. cond n (not (bit row (variable l))) (bit row (variable l))) minus
             ∙ ap not (bits (variable l) small ∙ gone)
       ]

@@ -116,8 +116,8 @@ pub found_false : (row : List Bool) (clause : List ℕ) → found_of row (open_l
     → (m : ℕ) → Contains clause m → bit row (negated m) ≡ true
 found_false row clause e m has =
     true_from (bit row (negated m)) (λ free.
-        let P : List ℕ → Type 0 = λ v. Contains v m in
-        Contains-none m (subst P (none_from_false row (open_lits row clause) e) (open_has row clause m has free)))
+    let P : List ℕ → Type 0 = λ v. Contains v m in
+    Contains-none m (subst P (none_from_false row (open_lits row clause) e) (open_has row clause m has free)))
 
 -- a clause that forces l
 pub record IsFoundForced (row : List Bool) (clause : List ℕ) (l : ℕ) : Type 0 where
@@ -138,11 +138,11 @@ found_forces row clause l e =
       free = here.1;
       others = λ m has other.
           true_from (bit row (negated m)) (λ free.
-              let Q : List ℕ → Type 0 = λ v. Contains v m in
-              elim (Contains-cases l m [] (subst Q r.0 (open_has row clause m has free))) [
-                | inl q ↦ other (sym q)
-                | inr k ↦ Contains-none m k
-              ]);
+          let Q : List ℕ → Type 0 = λ v. Contains v m in
+          elim (Contains-cases l m [] (subst Q r.0 (open_has row clause m has free))) [
+            | inl q ↦ other (sym q)
+            | inr k ↦ Contains-none m k
+          ]);
     }
 
 pub found_other : (row : List Bool) (clause : List ℕ) → found_of row (open_lits row clause) ≡ Other

@@ -33,9 +33,11 @@ accepted_push vars clauses [] line h e =
     (ap (λ v. refusal vars v line.clause line.hints) (sym (append-nil clauses)) ∙ e, tt)
 accepted_push vars clauses (l ∷ ls) line h e =
     let same : (clauses ++ l.clause ∷ []) ++ map (λ k. k.clause) ls ≡ clauses ++ (l.clause ∷ map (λ k. k.clause) ls) =
-    append_assoc clauses (l.clause ∷ []) (map (λ (k : Line). k.clause) ls) in
-    (h.0, accepted_push vars (clauses ++ l.clause ∷ []) ls line h.1
-    (ap (λ v. refusal vars v line.clause line.hints) same ∙ e))
+    append_assoc clauses (l.clause ∷ []) (map (λ (k : Line). k.clause) ls) in (
+      h.0,
+      accepted_push vars (clauses ++ l.clause ∷ []) ls line h.1
+          (ap (λ v. refusal vars v line.clause line.hints) same ∙ e),
+    )
 
 pub log_push : (vars : ℕ) (clauses all : List (List ℕ)) (lines : List Line) (line : Line)
     → refusal vars all line.clause line.hints ≡ None → IsLog vars clauses lines all
@@ -158,10 +160,10 @@ pub core_of : (places : List Place) (assumed number : ℕ) (clause core : List �
 core_of places assumed number clause core list last h low is there = record {
   part = let P : List ℕ → Type 0 = All (Contains (take assumed (lits_of places))) in
       subst P (sym is) (λ k d less.
-          let within : k < length clause = omega (arith, length-map clause negated) in
-          let Q : ℕ → Type 0 = Contains (take assumed (lits_of places)) in
-          subst Q (sym (get_or-map negated clause k d d within))
-          (low_literals places assumed clause last h low (get_or clause k d) (Contains-get_or clause k d within)));
+      let within : k < length clause = omega (arith, length-map clause negated) in
+      let Q : ℕ → Type 0 = Contains (take assumed (lits_of places)) in
+      subst Q (sym (get_or-map negated clause k d d within))
+      (low_literals places assumed clause last h low (get_or clause k d) (Contains-get_or clause k d within)));
   covered = or_left (list_any (is_false_under core) list) (has_both_signs core)
       (or_at (list_any (is_false_under core)) (is_false_under core) refl (λ _ _. refl) list number []
       (slice_get_within list number clause there)
@@ -173,5 +175,5 @@ core_of places assumed number clause core list last h low is there = record {
         (Decides-by_and (λ l. has_literal core (negated l)) (λ l. Contains core (negated l))
         (list_all (λ l. has_literal core (negated l))) (λ l. has_literal_decides core (negated l)) refl (λ _ _. refl) clause).1
         (λ k d less.
-            let P : List ℕ → Type 0 = λ v. Contains v (negated (get_or clause k d)) in
-            subst P (sym is) (negations_have clause (get_or clause k d) (Contains-get_or clause k d less)))
+        let P : List ℕ → Type 0 = λ v. Contains v (negated (get_or clause k d)) in
+        subst P (sym is) (negations_have clause (get_or clause k d) (Contains-get_or clause k d less)))

@@ -72,9 +72,11 @@ returns-in-False-clause-step c =
     let e = scanned values c.values.result.now list c.args.at c.clause.result.now c.lits.result.now c.scan.result
     c.scan.ensures.value c.values.ensures.value c.lits.ensures.value c.clause.ensures in
     let here : slice_get list c.args.at ≡ Some clause =
-    c.clause.ensures ∙ ap Some (sym (get_or_from_slice_get list c.args.at c.clause.result.now [] c.clause.ensures)) in
-    (refl, record {
-      clause = clause;
-      is = here;
-      wrong = all_false c.args.trail.now.vars values c.args.trail.now.places clause c.values.ensures.is (sym e ∙ c.in-False.is);
-    })
+    c.clause.ensures ∙ ap Some (sym (get_or_from_slice_get list c.args.at c.clause.result.now [] c.clause.ensures)) in (
+      refl,
+      record {
+        clause = clause;
+        is = here;
+        wrong = all_false c.args.trail.now.vars values c.args.trail.now.places clause c.values.ensures.is (sym e ∙ c.in-False.is);
+      },
+    )

@@ -41,7 +41,7 @@ returns-in-Refutes-clause-answer g c =
     c.loop-row.query.trail.places c.turn.new.query.trail.places c.loop-row.query.lines c.turn.new.query.lines
     c.loop-row.clauses c.turn.new.clauses i.0 i.1 c.turn.ensures.next in
     let P : ℕ → Type 0 = λ n.
-        IsCore (take n (lits_of c.turn.new.query.trail.places)) c.turn.new.clauses.list c.in-Refutes.core in
+    IsCore (take n (lits_of c.turn.new.query.trail.places)) c.turn.new.clauses.list c.in-Refutes.core in
     let refuted : Refuted = record { core = c.in-Refutes.core; lines = c.turn.new.query.lines } in
     refutation_of c.args.query.trail.vars c.args.query.assumed c.args.query.trail.places c.turn.new.query.trail.places
     c.args.clauses.now.list c.turn.new.query.lines c.turn.new.clauses.list refuted refl (next.base ∙ i.2.base)
