@@ -1,15 +1,14 @@
 -- Places that come and go, and the clauses that force them.
-use Rattle.std.proofs.Common.{◌≡◌, ℕ, ◌+◌, ◌-◌, ◌<◌, ◌≤◌, ◌⊎◌, Bool, true, false, not, cond, List, [], ◌∷◌, ◌++◌, length, get_or, map, take, drop, Option, Some, None, slice_get, inl, inr, refl, sym, subst, ◌∙◌, ap, arith, append_assoc, append-nil}
+use Rattle.std.proofs.Common.{◌≡◌, ℕ, ◌<◌, ◌⊎◌, Bool, true, false, not, cond, List, [], ◌∷◌, ◌++◌, length, get_or, take, Some, slice_get, inl, inr, refl, sym, subst, ◌∙◌, ap, arith, append_assoc, append-nil}
 use Rattle.std.specs.List.{Contains}
 use Rattle.std.proofs.lemmas.Bool.{cases_lt}
-use Rattle.std.proofs.lemmas.List.{map-append, map_push, length-map, length-append, length-take, length_push, take-map, take-take, take-append-le, take_at, get_or_append_left, get_or_push, get_or-take, get_or-map}
-use Rattle.std.proofs.lemmas.Option.{get_or_from_slice_get, slice_get_within, slice_get-get_or, slice_get-map, same_Some}
-use Rattle.ja_base.specs.Literals.{bit, variable, negated}
-use Rattle.ja_base.proofs.LiteralLemmas.{negated_twice}
+use Rattle.std.proofs.lemmas.List.{map_push, length-map, length-append, length-take, length_push, take-map, take-take, take-append-le, take_at, get_or_append_left, get_or_push, get_or-take}
+use Rattle.std.proofs.lemmas.Option.{get_or_from_slice_get, slice_get_within, slice_get-get_or, slice_get-map}
+use Rattle.ja_base.specs.Literals.{bit, negated}
 use Rattle.refute_check.specs.Lines.{found_of, open_lits}
 use Rattle.refute_check.specs.declared.found.Found.TheVariants.{False, Forces, Other}
 use Rattle.sat_plain.specs.declared.place.Place.{Place}
-use Rattle.sat_plain.specs.Trails.{IsTrail, IsReason, IsForcedBy, AreForced, AreFalse, IsGrown, IsFull, lits_of}
+use Rattle.sat_plain.specs.Trails.{IsTrail, IsReason, IsForcedBy, AreForced, AreFalse, IsGrown, lits_of}
 use Rattle.sat_plain.proofs.Members.{Contains-here, Contains-there, Contains-cases, Contains-none}
 
 -- ---- elements by their places

@@ -1,15 +1,15 @@
 -- A trail as literals come and go.
 use Rattle.std.proofs.Common.{◌≡◌, ℕ, ◌+◌, ◌*◌, ◌%◌, ◌<◌, ◌≤◌, ◌⊎◌, Bool, true, false, List, [], ◌∷◌, ◌++◌, length, get_or, set, map, take, eqb, Some, slice_get, zero, suc, inl, inr, refl, sym, subst, ◌∙◌, ap, arith}
-use Rattle.std.specs.List.{All, AllPairs, Contains, IsDistinct, list_any}
+use Rattle.std.specs.List.{AllPairs, Contains, list_any}
 use Rattle.std.proofs.lemmas.Bool.Decides.{nat_tests, eqb_tells, Decides-eqb, Decides-by_or}
-use Rattle.std.proofs.lemmas.List.{get_or-set_same, get_or-set_other, length-set, length-append, length-map, get_or-map, get_or_append_left, get_or_push, get_or_default, map-append}
+use Rattle.std.proofs.lemmas.List.{get_or-set_same, get_or-set_other, length-set, length-append, length-map, get_or-map, get_or_append_left, get_or_push}
 use Rattle.std.proofs.lemmas.List.Elements.{All-push, All-contains, All-map, Contains-push, Contains-push_cases, Contains-append_left, Contains-get_or, Decides-contains}
 use Rattle.std.proofs.lemmas.List.Quantifiers.{all_pairs_push}
 use Rattle.std.proofs.lemmas.Map.Made.{IsDistinct-from_AllPairs}
 use Rattle.std.proofs.lemmas.Map.Steps.{length-le_from_distinct_below}
 use Rattle.ja_base.specs.Literals.{bit, variable, negated}
 use Rattle.ja_base.specs.Clauses.{IsBelow}
-use Rattle.ja_base.proofs.LiteralLemmas.{literal_within, negated_within, variable_negated, negated_twice}
+use Rattle.ja_base.proofs.LiteralLemmas.{literal_within}
 use Rattle.sat_plain.specs.Trails.{IsTrail, AreApart, IsFull}
 use Rattle.std.proofs.lemmas.Bool.{cases_eq, false_from_ne_true}
 use Rattle.std.proofs.lemmas.Option.{get_or_from_slice_get, slice_get_within}

@@ -1,28 +1,28 @@
 -- What a turn of the search leaves.
-use Rattle.std.proofs.Common.{◌≡◌, ℕ, ◌+◌, ◌<◌, ◌≤◌, ◌||◌, Bool, true, false, List, [], ◌∷◌, ◌++◌, length, get_or, map, take, Option, Some, None, slice_get, inl, inr, refl, sym, subst, ◌∙◌, ap, arith, append_assoc, append-nil}
+use Rattle.std.proofs.Common.{◌≡◌, ℕ, ◌+◌, ◌<◌, ◌≤◌, true, List, [], ◌∷◌, ◌++◌, length, get_or, map, take, Option, Some, None, slice_get, inl, inr, refl, sym, subst, ◌∙◌, ap, arith, append_assoc, append-nil}
 use Rattle.std.specs.List.{All, Contains, list_any, list_all}
 use Rattle.std.proofs.lemmas.Bool.Decides.{eqb_tells, Decides-by_and}
 use Rattle.std.proofs.lemmas.Bool.{or_left}
-use Rattle.std.proofs.lemmas.List.{length-append, length-take, length-map, length_push, take-append-le, take-take, take_at, map_push, get_or-map, get_or_push, get_or_default}
+use Rattle.std.proofs.lemmas.List.{length-take, length-map, length_push, take-append-le, take-take, map_push, get_or-map, get_or_push}
 use Rattle.std.proofs.lemmas.List.Elements.{All-push, Contains-get_or}
 use Rattle.std.proofs.lemmas.List.Recursion.{or_at}
-use Rattle.std.proofs.lemmas.Option.{get_or_from_slice_get, slice_get_within, slice_get-get_or, same_Some, none-some}
-use Rattle.ja_base.specs.Literals.{negated, variable}
+use Rattle.std.proofs.lemmas.Option.{get_or_from_slice_get, slice_get_within, slice_get-get_or, same_Some}
+use Rattle.ja_base.specs.Literals.{negated}
 use Rattle.ja_base.specs.Clauses.{IsBelow, has_literal}
 use Rattle.ja_base.proofs.LiteralLemmas.{negated_twice}
 use Rattle.ja_base.proofs.ClauseLemmas.{has_literal_decides}
 use Rattle.refute_check.specs.Checked.{Numbering}
 use Rattle.refute_check.specs.Lines.{refusal}
 use Rattle.refute_check.specs.Laws.{AreAccepted, with_lines}
-use Rattle.refute_check.specs.Refuted.{is_covered, is_false_under, has_both_signs}
+use Rattle.refute_check.specs.Refuted.{is_false_under, has_both_signs}
 use Rattle.refute_check.specs.declared.lines.Line.{Line}
 use Rattle.refute_check.proofs.ListLemmas.{accepted_below}
 use Rattle.sat_plain.specs.declared.place.Place.{Place}
-use Rattle.sat_plain.specs.Trails.{AreForced, IsForcedBy, IsReason, IsGrown, lits_of, kinds_of}
+use Rattle.sat_plain.specs.Trails.{AreForced, IsForcedBy, IsReason, lits_of}
 use Rattle.sat_plain.specs.Walks.{IsCut, IsLast, IsAbove}
-use Rattle.sat_plain.specs.Turns.{IsLog, IsExtended, IsSearch, IsNext, IsCore, IsFurther}
+use Rattle.sat_plain.specs.Turns.{IsLog, IsSearch, IsNext, IsCore}
 use Rattle.sat_plain.proofs.Members.{taken_at, Contains-none}
-use Rattle.sat_plain.proofs.PlaceLemmas.{slice_get_left, lits_at, lits_take, forced_push, forced_take, forced_more}
+use Rattle.sat_plain.proofs.PlaceLemmas.{lits_at, lits_take, forced_push, forced_take, forced_more}
 use Rattle.sat_plain.proofs.WalkLemmas.{taken_has}
 
 -- ---- the log

@@ -1,17 +1,17 @@
 -- The highest decision that a walk kept.
-use Rattle.std.proofs.Common.{◌≡◌, ℕ, ◌+◌, ◌*◌, ◌<◌, ◌≤◌, Bool, List, [], ◌∷◌, ◌++◌, length, get_or, take, Option, Some, None, unwrap_or, slice_get, inl, inr, refl, sym, subst, ◌∙◌, ap, arith}
+use Rattle.std.proofs.Common.{◌≡◌, ℕ, ◌+◌, ◌*◌, ◌<◌, Bool, List, [], ◌∷◌, ◌++◌, length, get_or, take, Option, Some, None, unwrap_or, slice_get, inl, inr, refl, sym, subst, ◌∙◌, ap, arith}
 use Rattle.std.specs.List.{All, Contains}
 use Rattle.std.proofs.lemmas.List.{length-take, get_or-take}
-use Rattle.std.proofs.lemmas.Option.{get_or_from_slice_get, slice_get_within, same_Some, slice_get-get_or}
+use Rattle.std.proofs.lemmas.Option.{get_or_from_slice_get, slice_get_within}
 use Rattle.std.proofs.lemmas.List.Elements.{Contains-push, Contains-push_cases, Contains-append_left}
 use Rattle.ja_base.specs.Literals.{negated, variable}
 use Rattle.ja_base.specs.Clauses.{IsSetOf, IsBelow}
 use Rattle.ja_base.proofs.LiteralLemmas.{negated_twice, literal_within, negated_within}
 use Rattle.refute_check.specs.Spans.{Spans}
 use Rattle.sat_plain.specs.declared.place.Place.{Place}
-use Rattle.sat_plain.specs.Trails.{IsTrail, IsReason, lits_of}
+use Rattle.sat_plain.specs.Trails.{IsTrail, lits_of}
 use Rattle.sat_plain.specs.Derive.{IsWalked}
-use Rattle.sat_plain.specs.Walks.{IsCut, IsLast}
+use Rattle.sat_plain.specs.Walks.{IsLast}
 use Rattle.sat_plain.proofs.Members.{Contains-here, Contains-cases, Contains-none}
 use Rattle.sat_plain.proofs.PlaceLemmas.{lits_at}
 

@@ -1,11 +1,9 @@
-use Rattle.std.proofs.Common.{◌≡◌, ℕ, ◌+◌, List, [], ◌∷◌, ◌++◌, map, take, length, Option, Some, None, slice_get, is_none, refl, sym, subst, ◌∙◌, ap, arith}
+use Rattle.std.proofs.Common.{◌≡◌, ℕ, List, map, length, Option, Some, slice_get, refl, sym, subst, ◌∙◌, ap}
 use Rattle.std.proofs.lemmas.List.{length_push}
 use Rattle.std.proofs.lemmas.Option.{same_Some}
 use Rattle.ja_base.specs.Literals.{negated}
-use Rattle.refute_check.specs.Checked.{Numbering}
 use Rattle.refute_check.specs.declared.lines.Line.{Line}
 use Rattle.sat_plain.specs.declared.place.Place.{Place}
-use Rattle.sat_plain.specs.Trails.{lits_of}
 use Rattle.sat_plain.specs.Turns.{IsFurther}
 use Rattle.sat_plain.specs.Walks.{IsLast}
 use Rattle.sat_plain.proofs.PlaceLemmas.{lits_at}

@@ -1,11 +1,9 @@
-use Rattle.std.proofs.Common.{◌≡◌, ℕ, ◌-◌, ◌^◌, ◌<◌, ◌≤◌, List, take, refl, sym, subst, ◌∙◌, ap, arith}
-use Rattle.refute_check.specs.Checked.{Numbering}
-use Rattle.refute_check.specs.declared.lines.Line.{Line}
+use Rattle.std.proofs.Common.{◌≡◌, ℕ, ◌^◌, ◌<◌, List, take, refl, subst, ◌∙◌, ap, arith}
 use Rattle.refute_check.specs.declared.lines.Refuted.{Refuted}
 use Rattle.sat_plain.specs.declared.place.Place.{Place}
 use Rattle.sat_plain.specs.Trails.{lits_of, kinds_of}
 use Rattle.sat_plain.specs.Rank.{rank}
-use Rattle.sat_plain.specs.Turns.{IsNext, IsExtended, IsModel, IsCore}
+use Rattle.sat_plain.specs.Turns.{IsModel, IsCore}
 use Rattle.sat_plain.proofs.RankLemmas.{rank_below}
 use Rattle.sat_plain.proofs.SearchLemmas.{within_bound, model_of_old, refutation_of, extended_chain, as_at_first}
 use Rattle.sat_plain.proofs.search.search.Goals as goal

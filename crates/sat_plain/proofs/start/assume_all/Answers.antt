@@ -1,4 +1,4 @@
-use Rattle.std.proofs.Common.{◌≡◌, ℕ, ◌<◌, List, length, sym, ◌∙◌, ap, arith}
+use Rattle.std.proofs.Common.{ℕ, ◌<◌, List, length, sym, ◌∙◌, ap, arith}
 use Rattle.ja_base.specs.Literals.{bit, negated}
 use Rattle.sat_plain.proofs.Members.{taken_is_on}
 use Rattle.sat_plain.proofs.start.assume_all.Goals as goal

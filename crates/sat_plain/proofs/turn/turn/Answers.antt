@@ -1,4 +1,4 @@
-use Rattle.std.proofs.Common.{◌≡◌, ℕ, ◌<◌, ◌≤◌, List, Option, None, Ok, length, sym, subst, ap, arith}
+use Rattle.std.proofs.Common.{ℕ, ◌≤◌, List, Option, None, Ok, sym, subst, arith}
 use Rattle.std.specs.List.{All}
 use Rattle.ja_base.specs.Clauses.{IsBelow}
 use Rattle.sat_plain.specs.Trails.{lits_of, kinds_of}

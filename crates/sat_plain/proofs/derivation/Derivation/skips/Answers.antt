@@ -1,4 +1,4 @@
-use Rattle.std.proofs.Common.{◌≡◌, ℕ, ◌<◌, length, arith, Bool, not, false, sym, subst, ◌∙◌, ap}
+use Rattle.std.proofs.Common.{◌≡◌, ◌<◌, length, arith, not, false, sym, ◌∙◌, ap}
 use Rattle.std.proofs.lemmas.Bool.{OnTrue_from, not-true}
 use Rattle.std.proofs.lemmas.List.{get_or_read}
 use Rattle.ja_base.specs.Literals.{bit}
