@@ -1,6 +1,6 @@
 -- The steps of a walk down a trail.
-use Rattle.std.proofs.Common.{◌≡◌, ℕ, ◌+◌, ◌*◌, ◌<◌, ◌≤◌, ◌⊎◌, ◌==◌, ◌&&◌, Bool, true, false, not, cond, nat_lt, List, [], ◌∷◌, ◌++◌, length, get_or, set, map, take, drop, reverse, replicate, zero, suc, Some, None, slice_get, inl, inr, refl, sym, subst, ◌∙◌, ap, arith}
-use Rattle.std.specs.List.{All, AllPairs, Contains, list_any, list_all}
+use Rattle.std.proofs.Common.{◌≡◌, ℕ, ◌+◌, ◌*◌, ◌<◌, ◌⊎◌, Bool, true, false, not, cond, nat_lt, List, [], ◌∷◌, ◌++◌, length, get_or, set, take, drop, reverse, replicate, zero, suc, Some, None, slice_get, inl, inr, refl, sym, subst, ◌∙◌, ap, arith}
+use Rattle.std.specs.List.{Contains, list_any, list_all}
 use Rattle.std.specs.List.Sorted.{IsStrictlyIncreasing}
 use Rattle.std.proofs.lemmas.Bool.Decides.{nat_tests, eqb_tells, Decides-ltb, Decides-by_and, Decides-by_or}
 use Rattle.std.proofs.lemmas.Bool.{and_from, cases_order}
@@ -268,18 +268,18 @@ module _ (vars : ℕ) (clauses : List (List ℕ)) (trail : List ℕ) (p l number
       length-set (assumed clause d.marks) l false in
       let second : m ≡ negated l → ⊥ =
       λ q.
-          let f : bit (resolved_marks clause l d.marks) m ≡ false =
-          ap (bit (resolved_marks clause l d.marks)) q
-          ∙ bit_set_same (set (assumed clause d.marks) l false) (negated l) false
-          (omega (arith, negated_within l vars small)) in
-          cc in
+      let f : bit (resolved_marks clause l d.marks) m ≡ false =
+      ap (bit (resolved_marks clause l d.marks)) q
+      ∙ bit_set_same (set (assumed clause d.marks) l false) (negated l) false
+      (omega (arith, negated_within l vars small)) in
+      cc in
       let first : m ≡ l → ⊥ =
       λ q.
-          let f : bit (resolved_marks clause l d.marks) m ≡ false =
-          bit_set_other (set (assumed clause d.marks) l false) (negated l) m false second
-          ∙ ap (bit (set (assumed clause d.marks) l false)) q
-          ∙ bit_set_same (assumed clause d.marks) l false (omega (arith, literal_within l vars small)) in
-          cc in
+      let f : bit (resolved_marks clause l d.marks) m ≡ false =
+      bit_set_other (set (assumed clause d.marks) l false) (negated l) m false second
+      ∙ ap (bit (set (assumed clause d.marks) l false)) q
+      ∙ bit_set_same (assumed clause d.marks) l false (omega (arith, literal_within l vars small)) in
+      cc in
       (first, second, sym (other_marks m first second) ∙ e)
 
   known_after : (m : ℕ) → bit (resolved_marks clause l d.marks) m ≡ true → IsKnown trail p d.lits m
@@ -340,13 +340,13 @@ module _ (vars : ℕ) (clauses : List (List ℕ)) (trail : List ℕ) (p l number
             | inr other ↦
                 let second : m ≡ negated l → ⊥ =
                 λ q.
-                    elim (h.derived.known m e) [
-                      | inl k ↦ elim (known_more trail p l m h.there k) [
-                        | inl k' ↦ lower m k' (ap variable q ∙ variable_negated l)
-                        | inr q' ↦ other.1 (sym q')
-                      ]
-                      | inr k ↦ higher (negated m) k (variable_negated m ∙ ap variable q ∙ variable_negated l)
-                    ] in
+                elim (h.derived.known m e) [
+                  | inl k ↦ elim (known_more trail p l m h.there k) [
+                    | inl k' ↦ lower m k' (ap variable q ∙ variable_negated l)
+                    | inr q' ↦ other.1 (sym q')
+                  ]
+                  | inr k ↦ higher (negated m) k (variable_negated m ∙ ap variable q ∙ variable_negated l)
+                ] in
                 bit_set_other row l m true other.1
                 ∙ ready.marked m (other_marks m other.1 second ∙ stays_assumed clause d.marks m e)
           ];
@@ -421,11 +421,11 @@ line_fits vars clauses trail clause d walked set_of h =
         (Decides-by_and (λ l. nat_lt (variable l) vars) (λ l. variable l < vars)
         (list_all (λ l. nat_lt (variable l) vars)) (λ l. Decides-ltb (variable l) vars) refl (λ _ _. refl) clause).1
         (λ k e less.
-            let m : ℕ = get_or clause k e in
-            let w : variable (negated m) < vars =
-            All-contains (λ l. variable l < vars) trail (negated m) walked.below (on m (Contains-get_or clause k e less)) in
-            let P : ℕ → Type 0 = λ u. u < vars in
-            subst P (variable_negated m) w)
+        let m : ℕ = get_or clause k e in
+        let w : variable (negated m) < vars =
+        All-contains (λ l. variable l < vars) trail (negated m) walked.below (on m (Contains-get_or clause k e less)) in
+        let P : ℕ → Type 0 = λ u. u < vars in
+        subst P (variable_negated m) w)
 
     no_signs : has_both_signs clause ≡ true → ⊥
     no_signs e =

@@ -1,5 +1,5 @@
 -- A walk that keeps decisions and resolves the other places.
-use Rattle.std.specs.Prelude.{◌≡◌, ℕ, ◌+◌, ◌≤◌, ◌<◌, List, [], take, length, slice_get, Option, Some, None, Contains}
+use Rattle.std.specs.Prelude.{◌≡◌, ℕ, ◌≤◌, ◌<◌, List, [], take, slice_get, Option, Some, None}
 use Rattle.ja_base.specs.Literals.{negated}
 use Rattle.sat_plain.specs.declared.place.Place.{Place}
 use Rattle.sat_plain.specs.Trails.{IsReason, lits_of}

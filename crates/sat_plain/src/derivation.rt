@@ -34,7 +34,12 @@ impl Model for Derivation {
 
 impl Derivation {
     /// The walk begins at the end of the trail, with the number of a clause that is false there.
-    pub fn begin(alloc: Global, vars: u32, number: u32, clause: &Clause) -> Result<Derivation, Memory>
+    pub fn begin(
+        alloc: Global,
+        vars: u32,
+        number: u32,
+        clause: &Clause,
+    ) -> Result<Derivation, Memory>
         requires { IsBelow vars clause.now }
         ensures width { IfOk result (λ walk. length walk.marks ≡ 2 * vars) }
         ensures lits { IfOk result (λ walk. walk.lits ≡ []) }

@@ -15,6 +15,8 @@ mod query;
 mod sat;
 mod search;
 mod start;
+#[cfg(test)]
+mod tests;
 mod trail;
 mod turn;
 mod walk;

@@ -104,7 +104,15 @@ impl Sat for PlainSat {
         ensures flag_kept { F.may_rise flag.new ≡ F.may_rise flag.old }
         ensures flag_later { F.raised flag.old ≤ F.raised flag.new }
     {
-        let answer = ask(alloc, self.vars, &mut self.clauses, under, extra, meter, flag);
+        let answer = ask(
+            alloc,
+            self.vars,
+            &mut self.clauses,
+            under,
+            extra,
+            meter,
+            flag,
+        );
         self.clauses.keep();
         answer
     }

@@ -1,4 +1,4 @@
-use Rattle.std.proofs.Common.{◌≡◌, ℕ, List, None, reverse, sym, subst, ◌∙◌, ap}
+use Rattle.std.proofs.Common.{◌≡◌, ℕ, List, reverse, subst, ◌∙◌, ap}
 use Rattle.ja_base.specs.Clauses.{IsSetOf}
 use Rattle.refute_check.specs.Lines.{refusal}
 use Rattle.sat_plain.specs.Derive.{Derived}

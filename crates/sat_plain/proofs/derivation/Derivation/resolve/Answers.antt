@@ -1,5 +1,5 @@
-use Rattle.std.proofs.Common.{◌≡◌, ℕ, Bool, false, List, [], ◌∷◌, ◌++◌, set, length, refl, sym, subst, ◌∙◌, ap}
-use Rattle.std.specs.Vec.{with_items, with_item}
+use Rattle.std.proofs.Common.{◌≡◌, ℕ, Bool, false, List, [], ◌∷◌, ◌++◌, set, length, sym, subst, ◌∙◌, ap}
+use Rattle.std.specs.Vec.{with_items}
 use Rattle.std.proofs.lemmas.List.{with_items_is}
 use Rattle.ja_base.specs.Literals.{negated}
 use Rattle.refute_check.specs.Lines.{assumed}
