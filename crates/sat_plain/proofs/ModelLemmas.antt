@@ -13,7 +13,7 @@ use Rattle.refute_check.specs.declared.found.Found.TheVariants.{Other}
 use Rattle.sat_plain.specs.Trails.{IsTrail, IsFull, IsQuiet}
 use Rattle.sat_plain.specs.Turns.{IsModel}
 use Rattle.sat_plain.proofs.PlaceLemmas.{found_other}
-use Rattle.sat_plain.proofs.DeriveLemmas.{one_sign}
+use Rattle.sat_plain.proofs.FinishLemmas.{one_sign}
 
 module _ (vars : ℕ) (values row : List Bool) (lits : List ℕ) (is : IsTrail vars values lits)
     (bits : (v : ℕ) → v < vars → bit row v ≡ bit values (2 * v)) where

@@ -19,7 +19,7 @@ use Rattle.refute_check.specs.declared.lines.Line.{Line}
 use Rattle.refute_check.proofs.ListLemmas.{accepted_below}
 use Rattle.sat_plain.specs.declared.place.Place.{Place}
 use Rattle.sat_plain.specs.Trails.{AreForced, IsForcedBy, IsReason, lits_of}
-use Rattle.sat_plain.specs.Walks.{IsCut, IsLast, IsAbove}
+use Rattle.sat_plain.specs.Walks.{IsCut, IsLast, IsChoice}
 use Rattle.sat_plain.specs.Turns.{IsLog, IsSearch, IsNext, IsCore}
 use Rattle.sat_plain.proofs.Members.{taken_at, Contains-none}
 use Rattle.sat_plain.proofs.PlaceLemmas.{lits_at, lits_take, forced_push, forced_take, forced_more}
@@ -133,7 +133,7 @@ next_flip vars assumed q number places places' lines lines' clauses clauses' lin
 
 -- each literal of the clause is false by the lowest places
 low_literals : (places : List Place) (assumed : ℕ) (clause : List ℕ) (last : Option ℕ) → IsLast places 0 clause last
-    → IsAbove last assumed None → (m : ℕ) → Contains clause m → Contains (take assumed (lits_of places)) (negated m)
+    → IsChoice last assumed None → (m : ℕ) → Contains clause m → Contains (take assumed (lits_of places)) (negated m)
 low_literals places assumed clause None h low m has =
     let P : List ℕ → Type 0 = λ v. Contains v m in absurd (Contains-none m (subst P h has))
 low_literals places assumed clause (Some q) h low m has =
@@ -155,7 +155,7 @@ negations_have clause m has =
     (has.0, omega (arith, has.1, length-map clause negated), get_or-map negated clause has.0 m (negated m) has.1 ∙ ap negated has.2)
 
 pub core_of : (places : List Place) (assumed number : ℕ) (clause core : List ℕ) (list : List (List ℕ)) (last : Option ℕ)
-    → IsLast places 0 clause last → IsAbove last assumed None → core ≡ map negated clause
+    → IsLast places 0 clause last → IsChoice last assumed None → core ≡ map negated clause
     → slice_get list number ≡ Some clause → IsCore (take assumed (lits_of places)) list core
 core_of places assumed number clause core list last h low is there = record {
   part = let P : List ℕ → Type 0 = All (Contains (take assumed (lits_of places))) in

@@ -34,6 +34,7 @@ pub record IsContradiction (under : List ℕ) (refuted : Refuted) : Type 0 where
   pub both : has_both_signs refuted.core ≡ true
   pub lines : refuted.lines ≡ []
 
+-- the search may begin, or the literals of `under` contradict each other
 abbrev pub IsOpened : ℕ → List ℕ → Opening → Type 0
 IsOpened vars under (Ready query) = IsReadyFor vars under query
 IsOpened vars under (Contradicts refuted) = IsContradiction under refuted

@@ -23,6 +23,6 @@ pub record IsWalking (vars : ℕ) (clauses : List (List ℕ)) (places : List Pla
   pub highest : IsLast places p d.lits last
 
 -- whether the highest decision that was kept stands above the lowest places, `assumed` many
-abbrev pub IsAbove : Option ℕ → ℕ → Option ℕ → Type 0
-IsAbove last assumed None = (q : ℕ) → last ≡ Some q → q < assumed
-IsAbove last assumed (Some q) = (last ≡ Some q) × (assumed ≤ q)
+abbrev pub IsChoice : Option ℕ → ℕ → Option ℕ → Type 0
+IsChoice last assumed None = (q : ℕ) → last ≡ Some q → q < assumed
+IsChoice last assumed (Some q) = (last ≡ Some q) × (assumed ≤ q)

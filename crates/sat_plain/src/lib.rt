@@ -7,6 +7,10 @@ mod ask;
 mod derivation;
 mod laws;
 mod learn;
+#[cfg(test)]
+mod masks;
+#[cfg(test)]
+mod no_rows;
 mod pay;
 mod place;
 mod plain;

@@ -3,9 +3,8 @@
 ghost use Rattle.std.specs.Prelude.{◌≡◌, ◌+◌, ◌≤◌, ◌^◌, [], ◌∷◌, ◌++◌, length, option_copied, IfOk, OnOk, OnErr, IsTrue};
 ghost use Rattle.ja_base.specs.Clauses.{IsBelow};
 ghost use Rattle.ja_outside.specs.Faults.{Rose};
-ghost use Rattle.sat_plain.specs.Answer.{clauses_of, ExtraIsBelow, IsAnswer, OnStopped};
+ghost use Rattle.sat_plain.specs.Answer.{clauses_of, ExtraIsBelow, IsAnswer, OnStopped, OnUnsat};
 ghost use Rattle.sat_plain.specs.Ticks.{TicksAtMost, SpendsAtLeast, IsLater, IsTicked};
-ghost use Rattle.sat_plain.specs.Outcomes.{OnUnsat};
 
 use crate::answer::SatAnswer;
 use crate::ask::ask;

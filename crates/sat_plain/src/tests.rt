@@ -1,75 +1,14 @@
 ghost use Rattle.std.specs.Prelude.{◌≡◌, ◌<◌, ℕ, List, IfOk};
 ghost use Rattle.ja_base.specs.Clauses.{IsBelow};
 
+use crate::masks::{VARS, clause_of, has_row, holds, lits_of, mask_of, row_mask};
+use crate::no_rows::NoRows;
 use crate::{PlainSat, Sat, SatAnswer};
-use ja_base::{Clause, Lit, Lits, Memory, Meter, Row, Var};
-use ja_outside::{Flag, MemFlag, NoFlag};
+use ja_base::{Memory, Meter};
+use ja_outside::{MemFlag, NoFlag};
 use refute_check::{Checker, Hints, Line, Refuted};
 use std::alloc::Global;
 use std::test::Fail;
-
-// Literals over the variables 0 to 2 are bits of a mask, bit l for the literal l.
-const VARS: u32 = 3;
-
-/// Every row over them, as the mask of the literals that are 1.
-const ROWS: [u64; 8] = [
-    0b101010, 0b101001, 0b100110, 0b100101, 0b011010, 0b011001, 0b010110, 0b010101,
-];
-
-fn lits_of(alloc: Global, mask: u64) -> Result<Lits, Memory>
-    ensures { IfOk result (IsBelow 3) }
-{
-    let mut lits = Lits::new(alloc);
-    for lit in 0..6 {
-        if mask >> lit & 1 == 1 {
-            lits.push(Lit(lit))?;
-        }
-    }
-    Ok(lits)
-}
-
-fn clause_of(alloc: Global, mask: u64) -> Result<Clause, Memory>
-    ensures { IfOk result (IsBelow 3) }
-{
-    let lits = lits_of(alloc, mask)?;
-    let clause = Clause::from_lits(alloc, lits.as_slice())?;
-    Ok(clause)
-}
-
-fn mask_of(lits: &[Lit]) -> u64 {
-    let mut mask = 0;
-    for lit in lits {
-        mask |= 1 << (lit.number() % 64);
-    }
-    mask
-}
-
-fn row_mask(row: &Row) -> u64 {
-    let mut mask = 0;
-    for var in 0..row.len() {
-        let lit = 2 * u64::from(var) + u64::from(!row.get(var));
-        mask |= 1 << (lit % 64);
-    }
-    mask
-}
-
-fn holds(clauses: &[u64], under: u64, row: u64) -> bool {
-    for clause in clauses {
-        if clause & row == 0 {
-            return false;
-        }
-    }
-    under & row == under
-}
-
-fn has_row(clauses: &[u64], under: u64) -> bool {
-    for row in ROWS {
-        if holds(clauses, under, row) {
-            return true;
-        }
-    }
-    false
-}
 
 fn copy_line(alloc: Global, line: &Line) -> Result<Line, Memory> {
     let mut hints = Hints::new(alloc);
@@ -260,50 +199,6 @@ fn answers_queries(rt: HostRuntime) -> Result<(), Fail> {
         );
     }
     Ok(())
-}
-
-/// A solver that finds no room for a row.
-#[derive(Debug, Drop)]
-struct NoRows {
-    plain: PlainSat,
-}
-
-impl Sat for NoRows {
-    ghost count = { λ s. s.plain.vars };
-
-    ghost added = { λ s. s.plain.added };
-
-    fn make(alloc: Global, vars: u32) -> Result<NoRows, Memory> {
-        let plain = PlainSat::make(alloc, vars)?;
-        Ok(NoRows { plain })
-    }
-
-    fn fresh(&mut self) -> Result<Var, Memory> {
-        let var = self.plain.fresh()?;
-        Ok(var)
-    }
-
-    fn add(&mut self, alloc: Global, clause: &Clause) -> Result<u32, Memory> {
-        let number = self.plain.add(alloc, clause)?;
-        Ok(number)
-    }
-
-    fn solve<F: Flag>(
-        &mut self,
-        alloc: Global,
-        under: &[Lit],
-        extra: Option<&Clause>,
-        meter: &mut Meter,
-        flag: &mut F,
-    ) -> SatAnswer {
-        match self.plain.solve(alloc, under, extra, meter, flag) {
-            SatAnswer::Sat(_) => SatAnswer::Memory,
-            SatAnswer::Unsat(refuted) => SatAnswer::Unsat(refuted),
-            SatAnswer::Spent => SatAnswer::Spent,
-            SatAnswer::Stopped => SatAnswer::Stopped,
-            SatAnswer::Memory => SatAnswer::Memory,
-        }
-    }
 }
 
 /// What any solver tells of a fresh variable 2, where its literal 4 is to hold with `under`.

@@ -3,7 +3,8 @@ use Rattle.std.specs.Vec.{with_items}
 use Rattle.std.proofs.lemmas.List.{with_items_is}
 use Rattle.refute_check.specs.Lines.{assumed, unknown}
 use Rattle.sat_plain.specs.Derive.{Derived, IsDerived}
-use Rattle.sat_plain.proofs.DeriveLemmas.{begun, same_derived, length_assumed}
+use Rattle.sat_plain.proofs.AssumedLemmas.{length_assumed}
+use Rattle.sat_plain.proofs.DeriveLemmas.{begun, same_derived}
 use Rattle.sat_plain.proofs.derivation.Derivation.begin.Goals as goal
 
 pub returns-clause-begins : goal.returns-clause-begins

@@ -4,7 +4,9 @@ use Rattle.std.proofs.lemmas.List.{with_items_is}
 use Rattle.ja_base.specs.Literals.{negated}
 use Rattle.refute_check.specs.Lines.{assumed}
 use Rattle.sat_plain.specs.Derive.{Derived, IsDerived}
-use Rattle.sat_plain.proofs.DeriveLemmas.{resolved, same_derived, length_assumed}
+use Rattle.sat_plain.proofs.AssumedLemmas.{length_assumed}
+use Rattle.sat_plain.proofs.DeriveLemmas.{same_derived}
+use Rattle.sat_plain.proofs.ResolveLemmas.{resolved}
 use Rattle.sat_plain.proofs.derivation.Derivation.resolve.Goals as goal
 
 pub returns-clause-resolves : goal.returns-clause-resolves

@@ -2,7 +2,7 @@ use Rattle.std.proofs.Common.{ℕ, ◌<◌, List, get_or, subst}
 use Rattle.std.proofs.lemmas.List.Elements.{All-contains, Contains-get_or}
 use Rattle.ja_base.specs.Literals.{variable}
 use Rattle.ja_base.specs.Clauses.{IsBelow, IsSetOf}
-use Rattle.sat_plain.proofs.tests.clause_of.Goals as goal
+use Rattle.sat_plain.proofs.masks.clause_of.Goals as goal
 
 set_below : (n : ℕ) (lits clause : List ℕ) → IsSetOf lits clause → IsBelow n lits → IsBelow n clause
 set_below n lits clause set_of below = λ k d less.
