@@ -1,4 +1,5 @@
 pub mod Closed
 pub mod Start
+pub mod Resets
 pub mod Obligations
 pub mod Refusals

@@ -6,6 +6,7 @@ mod closed;
 mod join;
 mod laws;
 mod not_closed;
+mod start;
 
 pub use closed::Closed;
 pub use laws::{

@@ -89,7 +89,7 @@ place_of_latch n k latch is =
     get_left (map variable n.inputs ++ map (λ (k : Latch). variable k.lit) n.latches) (map gate_var n.gates) (length (map variable n.inputs) + k) (variable latch.lit)
     (get_right (map variable n.inputs) (map (λ (k : Latch). variable k.lit) n.latches) k (variable latch.lit) (get_map (λ (k : Latch). variable k.lit) n.latches k latch is))
 
-own_var : (n : Netlist) → IsSound n → (j k : ℕ) (other latch : Latch) → slice_get n.latches j ≡ Some other → slice_get n.latches k ≡ Some latch → variable other.lit ≡ variable latch.lit → j ≡ k
+pub own_var : (n : Netlist) → IsSound n → (j k : ℕ) (other latch : Latch) → slice_get n.latches j ≡ Some other → slice_get n.latches k ≡ Some latch → variable other.lit ≡ variable latch.lit → j ≡ k
 own_var n sound j k other latch at_j at_k same =
     let places = one_place (definitions n) (length (map variable n.inputs) + j) (length (map variable n.inputs) + k) (variable other.lit) (variable latch.lit) sound.once (place_of_latch n j other at_j) (place_of_latch n k latch at_k) same in
     omega (arith, places)
