@@ -1,1 +1,2 @@
 pub mod InductionLemmas
+pub mod StartLemmas
