@@ -1,9 +1,9 @@
 -- What inductive lists say of runs, and how one is made from others.
-use Rattle.std.proofs.Common.{◌≡◌, ℕ, true, false, Bool, List, [], ◌∷◌, ◌++◌, length, get_or, sym, subst, arith}
+use Rattle.std.proofs.Common.{ℕ, Bool, List, [], ◌∷◌, ◌++◌, get_or, sym, subst}
 use Rattle.std.specs.Prelude.{All, Contains}
 use Rattle.std.proofs.lemmas.Bool.{both_ways, false≢true}
-use Rattle.std.proofs.lemmas.List.Elements.{All-head, All-tail, All-append, All-contains, Contains-get_or, Contains-append_left, Contains-append_right, Contains-append_cases}
-use Rattle.ja_base.specs.Literals.{bit, value, SatisfiedBy}
+use Rattle.std.proofs.lemmas.List.Elements.{All-head, All-tail, All-append, All-contains, Contains-get_or, Contains-append_left, Contains-append_right}
+use Rattle.ja_base.specs.Literals.{value, SatisfiedBy}
 use Rattle.ja_base.specs.Circuit.{Circuit, Problem, bad_literal}
 use Rattle.ja_base.specs.Valuation.{IsValuation, latch_row, next_state, MeetsConstraints, AssumptionsHold}
 use Rattle.ja_base.specs.Runs.{Trace, IsRun, IsReachable, FailsLocally, BreaksAssumed}

@@ -1,2 +1,3 @@
 pub mod InductionLemmas
 pub mod StartLemmas
+pub mod JoinLemmas

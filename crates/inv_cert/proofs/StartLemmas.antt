@@ -1,14 +1,14 @@
 -- A clause is falsified by some initial row exactly where no literal of it agrees with a reset.
-use Rattle.std.proofs.Common.{◌≡◌, ℕ, zero, suc, ◌+◌, ◌*◌, ◌<◌, ◌==◌, ◌&&◌, ◌||◌, Bool, true, false, not, cond, List, [], ◌∷◌, ◌++◌, length, get_or, map, Option, Some, None, slice_get, refl, sym, ap, ◌∙◌, arith, eqb-true, eq-eqb}
+use Rattle.std.proofs.Common.{◌≡◌, ℕ, zero, suc, ◌+◌, ◌*◌, ◌==◌, ◌&&◌, Bool, true, false, not, cond, List, [], ◌∷◌, ◌++◌, length, get_or, map, Option, Some, None, slice_get, refl, sym, ap, ◌∙◌, arith, eqb-true, eq-eqb}
 use Rattle.std.specs.Prelude.{All}
 use Rattle.std.specs.List.{list_any, list_all}
 use Rattle.std.specs.Option.{unwrap_or}
-use Rattle.std.proofs.lemmas.Bool.{both_ways, or_parts, and_parts, cases_Bool, false_from_ne_true, not_from_true, not_from_false}
+use Rattle.std.proofs.lemmas.Bool.{both_ways, or_parts, and_parts, false_from_ne_true}
 use Rattle.std.proofs.lemmas.Bool.Decides.{nat_tests}
 use Rattle.std.proofs.lemmas.List.{length-map, get_or-map}
 use Rattle.std.proofs.lemmas.List.Folds.{Any-from_list_any, list_any_at, list_any_none}
-use Rattle.std.proofs.lemmas.Option.{slice_get_read, slice_get-get_or, get_or_from_slice_get, slice_get_within}
-use Rattle.ja_base.specs.Literals.{bit, variable, is_negated, negated, with_sign, SatisfiedBy}
+use Rattle.std.proofs.lemmas.Option.{slice_get_read, get_or_from_slice_get, slice_get_within}
+use Rattle.ja_base.specs.Literals.{bit, variable, is_negated, negated, with_sign}
 use Rattle.ja_base.specs.Circuit as plain
 use Rattle.ja_base.specs.Clauses.{has_literal}
 use Rattle.ja_base.specs.Runs.{IsInitial}
@@ -154,10 +154,9 @@ falsified_at_start c clause own none =
     let each : All (λ l. latch_value c.latches (falsifying_row c clause) l ≡ false) clause =
     λ k d h. falsified_in c.latches clause (get_or clause k d) (none_passes (agrees_with_reset c) clause none k d h)
     (is_falsified clause (get_or clause k d)
-    (list_any_at (λ m. m == get_or clause k d) clause k d h (eq-eqb (get_or clause k d) (get_or clause k d) refl)) (one_sign k d h)) in
-    (
+    (list_any_at (λ m. m == get_or clause k d) clause k d h (eq-eqb (get_or clause k d) (get_or clause k d) refl)) (one_sign k d h)) in (
       falsifying_row c clause,
       falsifying_is_initial c clause,
       both_ways (list_any (latch_value c.latches (falsifying_row c clause)) clause)
-      (list_any_none (latch_value c.latches (falsifying_row c clause)) clause each),
+          (list_any_none (latch_value c.latches (falsifying_row c clause)) clause each),
     )
