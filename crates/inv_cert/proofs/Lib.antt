@@ -1,2 +1,5 @@
+pub mod InductionLemmas
+pub mod StartLemmas
+pub mod JoinLemmas
 pub mod ResetLemmas
 pub mod ForeignLemmas

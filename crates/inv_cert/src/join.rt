@@ -14,6 +14,5 @@ pub(crate) fn joined(
 ) -> Result<ClauseList, Memory>
     ensures { IfOk result (λ both. both ≡ joined first.now second.now) }
 {
-    let _ = (alloc, first, second);
     Err(Memory)
 }
