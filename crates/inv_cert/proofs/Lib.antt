@@ -3,3 +3,4 @@ pub mod StartLemmas
 pub mod JoinLemmas
 pub mod ResetLemmas
 pub mod ForeignLemmas
+pub mod ProofLemmas

@@ -3,3 +3,4 @@ pub mod Start
 pub mod Resets
 pub mod Obligations
 pub mod Refusals
+pub mod Taken

@@ -6,6 +6,7 @@ mod closed;
 mod join;
 mod laws;
 mod not_closed;
+mod proof;
 mod start;
 
 pub use closed::Closed;
