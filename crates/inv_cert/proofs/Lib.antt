@@ -1,3 +1,4 @@
 pub mod InductionLemmas
 pub mod StartLemmas
 pub mod JoinLemmas
+pub mod KnownLemmas

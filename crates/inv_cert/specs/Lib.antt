@@ -2,3 +2,4 @@ pub mod Closed
 pub mod Start
 pub mod Obligations
 pub mod Refusals
+pub mod Known
