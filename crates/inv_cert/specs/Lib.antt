@@ -4,3 +4,4 @@ pub mod Resets
 pub mod Obligations
 pub mod Refusals
 pub mod Taken
+pub mod Known

@@ -23,8 +23,8 @@ use std::marker::Model;
 /// Clauses that are closed for a task.
 #[derive(Drop)]
 pub struct Closed {
-    task: Task,
-    clauses: ClauseList,
+    pub(crate) task: Task,
+    pub(crate) clauses: ClauseList,
 }
 
 impl Model for Closed {

@@ -3,6 +3,7 @@
 #![tactic(auto)]
 
 mod closed;
+mod closed_set;
 mod join;
 mod laws;
 mod not_closed;
