@@ -6,7 +6,7 @@ ghost use Rattle.ja_base.specs.Clauses.{IsBelow};
 ghost use Rattle.ja_base.specs.Invariants.{latch_value};
 ghost use Rattle.ja_base.specs.Valuation.{IsBad, next_state};
 ghost use Rattle.aig_model.specs.declared.netlist.Latch as netlist;
-ghost use Rattle.aig_model.specs.Netlist.{circuit};
+ghost use Rattle.aig_model.specs.Netlist.{IsSound, circuit};
 ghost use Rattle.ja_project.specs.CodedClauses.{IsOverLatch, coded_clauses, held_literals, next_literal, with_sign_of};
 ghost use Rattle.ja_project.specs.Meaning.{CodesSteps, CodesAssumptions};
 
@@ -55,7 +55,9 @@ impl Coded {
     }
 
     pub fn task(&self) -> &Task
-        ensures { result.now ≡ self.now }
+        ensures value { result.now ≡ self.now }
+        ensures sound { IsSound self.now.design }
+        ensures expected { length self.now.expected ≡ length self.now.design.bads }
     {
         &self.task
     }
