@@ -1,13 +1,19 @@
 -- Whether a clause may stand in a closed list, from one literal on.
-use Rattle.std.proofs.Common.{◌≡◌, ℕ, ◌+◌, ◌<◌, ◌&&◌, ◌||◌, Bool, true, false, not, nat_lt, List, [], ◌∷◌, length, get_or, drop, suc, add-one, refl, sym, subst, ◌∙◌, ap, arith}
+use Rattle.std.proofs.Common.{◌≡◌, ℕ, ◌+◌, ◌<◌, ◌==◌, eqb, eqb-true, Some, slice_get, map, ◌&&◌, ◌||◌, Bool, true, false, not, nat_lt, List, [], ◌∷◌, length, get_or, drop, suc, add-one, refl, sym, subst, ◌∙◌, ap, arith}
 use Rattle.std.proofs.Math.Seq.{drop-cons}
-use Rattle.std.specs.List.{list_any, list_all, All}
+use Rattle.std.specs.List.{list_any, list_all, All, AllByRecursion}
+use Rattle.std.proofs.lemmas.Bool.{or_parts, and_parts}
 use Rattle.std.proofs.lemmas.Bool.Decides.{Decides-ltb, Decides-by_and}
-use Rattle.std.proofs.lemmas.List.Elements.{All-tail, All-drop}
+use Rattle.std.proofs.lemmas.List.Elements.{All-tail, All-drop, All-from_recursion}
 use Rattle.ja_base.specs.Literals.{variable, negated}
 use Rattle.ja_base.specs.Circuit.{Circuit}
+use Rattle.ja_base.specs.Circuit as plain
 use Rattle.ja_base.specs.Clauses.{IsBelow}
 use Rattle.ja_base.proofs.ClauseLemmas.{Ascends}
+use Rattle.aig_model.specs.declared.netlist.Latch.{Latch}
+use Rattle.aig_model.specs.Netlist.{Netlist, IsSound, circuit, latch_of}
+use Rattle.ja_project.specs.CodedClauses.{IsOverLatch}
+use Rattle.ja_project.proofs.BelowLemmas.{new_is_below}
 use Rattle.refute_check.specs.Refuted.{has_both_signs}
 use Rattle.refute_check.specs.Lines.{first_is, is_fit}
 use Rattle.refute_check.proofs.FitLemmas.{fit_step}
@@ -67,3 +73,51 @@ foreign_at c n i l lits less e below up =
     let Q : List ℕ → Type 0 = IsBelow n in
     let low : IsBelow n (l ∷ drop (i + 1) lits) = subst Q whole (All-drop (λ (m : ℕ). variable m < n) i lits below) in
     (here.1, ap (is_foreign c) whole ∙ foreign_step c n l (drop (i + 1) lits) low here)
+
+-- ---- a clause that may stand in a closed list
+
+over_in : (ks : List Latch) (u : ℕ) → list_any (λ (k : plain.Latch). u == k.var) (map latch_of ks) ≡ true
+    → (place : ℕ) × (latch : Latch) × (slice_get ks place ≡ Some latch) × (variable latch.lit ≡ u)
+over_in [] u e = absurd cc
+over_in (x ∷ xs) u e = by_test (eqb u (variable x.lit)) refl (over_in xs u) e
+  where
+    by_test : (b : Bool) → b ≡ eqb u (variable x.lit)
+        → (list_any (λ (k : plain.Latch). u == k.var) (map latch_of xs) ≡ true
+        → (place : ℕ) × (latch : Latch) × (slice_get xs place ≡ Some latch) × (variable latch.lit ≡ u))
+        → (b || list_any (λ (k : plain.Latch). u == k.var) (map latch_of xs)) ≡ true
+        → (place : ℕ) × (latch : Latch) × (slice_get (x ∷ xs) place ≡ Some latch) × (variable latch.lit ≡ u)
+    by_test true f later e = (0, x, refl, sym (eqb-true u (variable x.lit) (sym f)))
+    by_test false f later e = let h = later e in (suc h.0, h.1, h.2, h.3)
+
+pub IsOverLatch-from_test : (n : Netlist) (l : ℕ) → is_over_latch (circuit n) l ≡ true → IsOverLatch n l
+IsOverLatch-from_test n l e =
+    let h = over_in n.latches (variable l) e in
+    record { place = h.0; latch = h.1; latch_is = h.2; var_is = h.3 }
+
+pub all_over : (c : Circuit) (clause : List ℕ) → is_foreign c clause ≡ false → AllByRecursion (λ l. is_over_latch c l ≡ true) clause
+all_over c clause own = each clause (not_false (list_all (is_over_latch c) clause) (or_parts (has_both_signs clause) (not (list_all (is_over_latch c) clause)) own).1)
+  where
+    not_false : (b : Bool) → not b ≡ false → b ≡ true
+    not_false true e = refl
+    not_false false e = cc
+
+    each : (ls : List ℕ) → list_all (is_over_latch c) ls ≡ true → AllByRecursion (λ l. is_over_latch c l ≡ true) ls
+    each [] e = tt
+    each (l ∷ ls) e = let both = and_parts (is_over_latch c l) (list_all (is_over_latch c) ls) e in (both.0, each ls both.1)
+
+pub over_at : (n : Netlist) (clause : List ℕ) (k d : ℕ) → is_foreign (circuit n) clause ≡ false → k < length clause
+    → IsOverLatch n (get_or clause k d)
+over_at n clause k d own within =
+    IsOverLatch-from_test n (get_or clause k d)
+    (All-from_recursion (λ l. is_over_latch (circuit n) l ≡ true) clause (all_over (circuit n) clause own) k d within)
+
+-- its variables are those of the design
+pub own_is_below : (n : Netlist) → IsSound n → (clause : List ℕ) → is_foreign (circuit n) clause ≡ false → IsBelow (n.vars + 1) clause
+own_is_below n sound clause own = λ k d within.
+    let over = over_at n clause k d own within in
+    let below = new_is_below n.vars over.latch.lit (sound.latches over.place over.latch over.latch_is).lit in
+    omega (arith, below, over.var_is)
+
+pub own_are_below : (n : Netlist) → IsSound n → (clauses : List (List ℕ)) → All (λ clause. is_foreign (circuit n) clause ≡ false) clauses
+    → All (IsBelow (n.vars + 1)) clauses
+own_are_below n sound clauses own = λ k d within. own_is_below n sound (get_or clauses k d) (own k d within)

@@ -5,3 +5,5 @@ pub mod KnownLemmas
 pub mod ResetLemmas
 pub mod ForeignLemmas
 pub mod ProofLemmas
+pub mod LoadLemmas
+pub mod AcceptLemmas

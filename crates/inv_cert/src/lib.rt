@@ -2,10 +2,12 @@
 //! and `specs/Start`, what a proof has to show in `specs/Obligations`, and which refusal comes first in `specs/Refusals`.
 #![tactic(auto)]
 
+mod check;
 mod closed;
 mod closed_set;
 mod join;
 mod laws;
+mod load;
 mod not_closed;
 mod proof;
 mod start;
