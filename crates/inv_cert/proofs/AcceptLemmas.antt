@@ -47,7 +47,7 @@ next_is xs n before after (Some x) e steps =
 
 -- ---- the refusal of a candidate
 
-refusal_at : (t : VerificationTask) (base candidates : List (List ℕ)) (proofs : List Refuted) (number : ℕ) (clause : List ℕ) (o : Option Refuted)
+pub refusal_at : (t : VerificationTask) (base candidates : List (List ℕ)) (proofs : List Refuted) (number : ℕ) (clause : List ℕ) (o : Option Refuted)
     → slice_get proofs number ≡ o
     → candidate_refusal t base candidates proofs number clause ≡ refusal_by t (step_clauses t base candidates) number clause o
 refusal_at t base candidates proofs number clause None e = rw e refl

@@ -7,3 +7,5 @@ pub mod ForeignLemmas
 pub mod ProofLemmas
 pub mod LoadLemmas
 pub mod AcceptLemmas
+pub mod ValueLemmas
+pub mod ObligationLemmas
