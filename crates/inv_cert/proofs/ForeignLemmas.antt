@@ -121,3 +121,11 @@ own_is_below n sound clause own = λ k d within.
 pub own_are_below : (n : Netlist) → IsSound n → (clauses : List (List ℕ)) → All (λ clause. is_foreign (circuit n) clause ≡ false) clauses
     → All (IsBelow (n.vars + 1)) clauses
 own_are_below n sound clauses own = λ k d within. own_is_below n sound (get_or clauses k d) (own k d within)
+
+-- the same for a checker that has as many variables
+pub own_fit : (n : Netlist) → IsSound n → (vars : ℕ) (clauses seen : List (List ℕ)) → vars ≡ n.vars + 1 → seen ≡ clauses
+    → All (λ clause. is_foreign (circuit n) clause ≡ false) clauses → All (IsBelow vars) seen
+own_fit n sound vars clauses seen e f own =
+    let P : ℕ → Type 0 = λ m. All (IsBelow m) seen in
+    let Q : List (List ℕ) → Type 0 = All (IsBelow (n.vars + 1)) in
+    subst P (sym e) (subst Q (sym f) (own_are_below n sound clauses own))

@@ -9,3 +9,4 @@ pub mod LoadLemmas
 pub mod AcceptLemmas
 pub mod ValueLemmas
 pub mod ObligationLemmas
+pub mod ClosedLemmas

@@ -68,7 +68,7 @@ pub(crate) fn accept_all(
     candidates: &ClauseList,
     proofs: Proofs,
 ) -> Result<(), OrMemory<NotClosed>>
-    requires base { All (IsBelow (coded.now.design.vars + 1)) base.now }
+    requires base { All (λ clause. is_foreign (circuit coded.now.design) clause ≡ false) base.now }
     requires candidates { All (IsBelow (coded.now.design.vars + 1)) candidates.now }
     ensures accepted { OnOk result (AreAccepted coded.now base.now candidates.now proofs (length candidates.now)) }
     ensures refused { IfRefused result (IsFirstRefusal coded.now base.now candidates.now proofs) }
@@ -78,7 +78,15 @@ pub(crate) fn accept_all(
     let mut proofs = proofs.into_vec().into_iter();
     for number in 0..candidates.len() {
         let clause = candidates.get(number);
-        accept(alloc, coded, &table, &mut checker, number, clause, proofs.next())?;
+        accept(
+            alloc,
+            coded,
+            &table,
+            &mut checker,
+            number,
+            clause,
+            proofs.next(),
+        )?;
     }
     Ok(())
 }

@@ -12,7 +12,11 @@ ghost use Rattle.inv_cert.specs.Closed.{IsClosed};
 ghost use Rattle.inv_cert.specs.Obligations.{cover_clauses};
 ghost use Rattle.inv_cert.specs.Refusals.{AreAccepted, IsFirstRefusal, proof_refusal};
 
+use crate::check::accept_all;
+use crate::join::joined;
+use crate::load::cover_checker;
 use crate::not_closed::NotClosed;
+use crate::proof::take_proof;
 use aig_model::Task;
 use ja_base::{ClauseList, Memory, OrMemory};
 use ja_project::Coded;
@@ -47,6 +51,48 @@ impl Closed {
             task: task.share()?,
             clauses: ClauseList::new(alloc),
         })
+    }
+
+    /// The list, and behind it the candidates that it does not have, where each has a proof that is accepted: proof i is that
+    /// of candidate i, and further proofs are passed over. The task of the result is that of `coded`.
+    pub fn check(
+        alloc: Global,
+        coded: &Coded,
+        base: &Closed,
+        candidates: ClauseList,
+        proofs: Proofs,
+    ) -> Result<Closed, OrMemory<NotClosed>>
+        requires task { problem base.now.task ≡ problem coded.now }
+        requires below { All (IsBelow (coded.now.design.vars + 1)) candidates }
+        ensures closed { IfOk result (λ closed. closed ≡ record { task = coded.now; clauses = joined base.now.clauses candidates }) }
+        ensures accepted { OnOk result (AreAccepted coded.now base.now.clauses candidates proofs (length candidates)) }
+        ensures refused { IfRefused result (IsFirstRefusal coded.now base.now.clauses candidates proofs) }
+    {
+        let task = coded.task().share()?;
+        accept_all(alloc, coded, &base.clauses, &candidates, proofs)?;
+        let clauses = joined(alloc, &base.clauses, &candidates)?;
+        Ok(Closed { task, clauses })
+    }
+
+    /// Whether the proof shows that the property is broken in no row that meets the clauses, with nothing assumed. In a
+    /// refusal the number is 0.
+    pub fn covers(
+        &self,
+        alloc: Global,
+        coded: &Coded,
+        prop: u32,
+        proof: Refuted,
+    ) -> Result<(), OrMemory<NotClosed>>
+        requires task { problem self.now.task ≡ problem coded.now }
+        requires within { prop < length coded.now.design.bads }
+        ensures covered { OnOk result (Covers (circuit coded.now.design) self.now.clauses prop) }
+        ensures accepted { OnOk result (proof_refusal 0 (coded.now.design.vars + 1) (cover_clauses coded.now self.now.clauses)
+            proof.lines (bad_literal (circuit coded.now.design) prop ∷ []) ≡ None) }
+        ensures refused { IfRefused result (λ r. proof_refusal 0 (coded.now.design.vars + 1) (cover_clauses coded.now self.now.clauses)
+            proof.lines (bad_literal (circuit coded.now.design) prop ∷ []) ≡ Some r) }
+    {
+        let mut checker = cover_checker(alloc, coded, &self.clauses)?;
+        take_proof(&mut checker, 0, proof.lines, &[coded.bad(prop)])
     }
 
     /// The clauses, in order.

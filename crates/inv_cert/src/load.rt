@@ -1,9 +1,11 @@
 //! The clauses that a checker is given.
 
-ghost use Rattle.std.specs.Prelude.{◌≡◌, ◌+◌, ◌<◌, [], ◌∷◌, ℕ, All, IfOk, OnOk, map};
+ghost use Rattle.std.specs.Prelude.{◌≡◌, ◌+◌, ◌<◌, [], ◌∷◌, ℕ, false, All, IfOk, OnOk, map};
 ghost use Rattle.ja_base.specs.Literals.{variable};
 ghost use Rattle.ja_base.specs.Clauses.{IsBelow};
+ghost use Rattle.aig_model.specs.Netlist.{IsSound, circuit};
 ghost use Rattle.refute_check.specs.Checked.{IsAdded};
+ghost use Rattle.inv_cert.specs.Closed.{is_foreign};
 ghost use Rattle.inv_cert.specs.Obligations.{cover_clauses, step_clauses};
 ghost use Rattle.inv_cert.specs.Taken.{IsLoaded, Loads};
 
@@ -49,7 +51,7 @@ pub(crate) fn step_checker(
     base: &ClauseList,
     candidates: &ClauseList,
 ) -> Result<Checker, Memory>
-    requires base { All (IsBelow (coded.now.design.vars + 1)) base.now }
+    requires base { All (λ clause. is_foreign (circuit coded.now.design) clause ≡ false) base.now }
     requires candidates { All (IsBelow (coded.now.design.vars + 1)) candidates.now }
     ensures { IfOk result (IsLoaded (coded.now.design.vars + 1) (step_clauses coded.now base.now candidates.now)) }
 {
@@ -67,8 +69,9 @@ pub(crate) fn cover_checker(
     coded: &Coded,
     clauses: &ClauseList,
 ) -> Result<Checker, Memory>
-    requires { All (IsBelow (coded.now.design.vars + 1)) clauses.now }
-    ensures { IfOk result (IsLoaded (coded.now.design.vars + 1) (cover_clauses coded.now clauses.now)) }
+    requires { All (λ clause. is_foreign (circuit coded.now.design) clause ≡ false) clauses.now }
+    ensures loaded { IfOk result (IsLoaded (coded.now.design.vars + 1) (cover_clauses coded.now clauses.now)) }
+    ensures sound { IsSound coded.now.design }
 {
     let mut checker = Checker::new(alloc, coded.vars())?;
     add_all(alloc, &mut checker, coded.clauses().as_slice())?;

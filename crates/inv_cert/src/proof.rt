@@ -10,7 +10,11 @@ use crate::not_closed::NotClosed;
 use ja_base::{Lit, OrMemory};
 use refute_check::{Checker, Line, Lines};
 
-fn take_lines(checker: &mut Checker, number: u32, lines: Vec<Line>) -> Result<(), OrMemory<NotClosed>>
+fn take_lines(
+    checker: &mut Checker,
+    number: u32,
+    lines: Vec<Line>,
+) -> Result<(), OrMemory<NotClosed>>
     requires room { length lines.items ≤ checker.old.spare }
     requires short { length lines.items < 2 ^ 32 }
     requires loaded { IsLoaded checker.old.vars checker.old.list checker.old }

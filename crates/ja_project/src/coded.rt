@@ -64,7 +64,8 @@ impl Coded {
 
     /// The number of variables, M + 1.
     pub fn vars(&self) -> u32
-        ensures { result ≡ self.now.design.vars + 1 }
+        ensures value { result ≡ self.now.design.vars + 1 }
+        ensures sound { IsSound self.now.design }
     {
         self.task.design().vars() + 1
     }

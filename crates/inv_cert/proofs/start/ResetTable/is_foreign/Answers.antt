@@ -29,7 +29,9 @@ loop-at-preserved c =
     let own : not (is_over_latch (circuit c.args.self.now) lit) ≡ false = ap not (sym c.is_over_latch.ensures ∙ c.if-not-is_over_latch.false) in
     let single : first_is (negated lit) (drop next lits) ≡ false =
     ap (first_is (negated lit)) (sym later) ∙ ap (λ (l : ℕ). first_is l (take (length lits - next) (drop next lits))) (sym c.not.ensures)
-    ∙ sym c.is_first.ensures ∙ c.if-is_first.false in
-    (step.0, c.loop-at.invariant.1 ∙ step.1
-    ∙ ap (λ (b : Bool). (b || first_is (negated lit) (drop next lits)) || is_foreign (circuit c.args.self.now) (drop next lits)) own
-    ∙ ap (λ (b : Bool). b || is_foreign (circuit c.args.self.now) (drop next lits)) single)
+    ∙ sym c.is_first.ensures ∙ c.if-is_first.false in (
+      step.0,
+      c.loop-at.invariant.1 ∙ step.1
+          ∙ ap (λ (b : Bool). (b || first_is (negated lit) (drop next lits)) || is_foreign (circuit c.args.self.now) (drop next lits)) own
+          ∙ ap (λ (b : Bool). b || is_foreign (circuit c.args.self.now) (drop next lits)) single,
+    )
