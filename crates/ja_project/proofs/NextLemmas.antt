@@ -10,7 +10,7 @@ use Rattle.ja_base.proofs.LiteralLemmas.{value_negated}
 use Rattle.aig_model.specs.declared.netlist.Latch.{Latch}
 use Rattle.aig_model.specs.Netlist.{Netlist, IsSound, circuit, definitions, gate_var, latch_of}
 use Rattle.aig_model.proofs.Places.{get_left, get_right, get_map, one_place}
-use Rattle.ja_project.specs.CodedClauses.{IsOverLatch, with_sign_of}
+use Rattle.ja_project.specs.CodedClauses.{IsOverLatch, next_literal, with_sign_of}
 use Rattle.ja_project.specs.Coding.{HasNexts}
 use Rattle.ja_project.proofs.BelowLemmas.{lit_is_below, negated_is_below}
 
@@ -71,6 +71,40 @@ module _ (n : Netlist) (nexts : List ℕ) (table : HasNexts n nexts) (l next : �
       let below : variable over.latch.next < n.vars + 1 = lit_is_below n.vars over.latch.next (sound.latches over.place over.latch over.latch_is).next.within in
       signed_is_below n.vars l next (omega (arith, below, ap variable same))
 
+-- the latch that decides what the literal is one step later
+pub record HasNext (latches : List Latch) (l next : ℕ) : Type 0 where
+  pub place : ℕ
+  pub latch : Latch
+  pub latch_is : slice_get latches place ≡ Some latch
+  pub var_is : variable latch.lit ≡ variable l
+  pub next_is : with_sign_of l latch.next ≡ next
+
+HasNext-later : (x : Latch) (xs : List Latch) (l next : ℕ) → HasNext xs l next → HasNext (x ∷ xs) l next
+HasNext-later x xs l next h = record { place = suc h.place; latch = h.latch; latch_is = h.latch_is; var_is = h.var_is; next_is = h.next_is }
+
+first_next : (latches : List Latch) (l k : ℕ) (latch : Latch) → slice_get latches k ≡ Some latch → variable latch.lit ≡ variable l
+    → HasNext latches l (next_literal latches l)
+first_next [] l k latch is var = absurd cc
+first_next (x ∷ xs) l zero latch is var =
+    let same : x ≡ latch = same_Some x latch is in
+    let own : variable x.lit ≡ variable l = ap (λ (y : Latch). variable y.lit) same ∙ var in
+    record {
+      place = 0; latch = x; latch_is = refl; var_is = own;
+      next_is = sym (ap (λ (b : Bool). cond b (with_sign_of l x.next) (next_literal xs l)) (eq-eqb (variable x.lit) (variable l) own));
+    }
+first_next (x ∷ xs) l (suc k) latch is var = by_test (eqb (variable x.lit) (variable l)) refl (first_next xs l k latch is var)
+  where
+    by_test : (b : Bool) → b ≡ eqb (variable x.lit) (variable l) → HasNext xs l (next_literal xs l)
+        → HasNext (x ∷ xs) l (cond b (with_sign_of l x.next) (next_literal xs l))
+    by_test true e h = record { place = 0; latch = x; latch_is = refl; var_is = eqb-true (variable x.lit) (variable l) (sym e); next_is = refl }
+    by_test false e h = HasNext-later x xs l (next_literal xs l) h
+
+pub next_is_first : (n : Netlist) (nexts : List ℕ) → HasNexts n nexts → (l next : ℕ) → Says nexts l next → IsOverLatch n l
+    → with_sign_of l next ≡ next_literal n.latches l
+next_is_first n nexts table l next says over =
+    let first = first_next n.latches l over.place over.latch over.latch_is over.var_is in
+    next_is_exact n nexts table l next says first.place first.latch first.latch_is first.var_is ∙ first.next_is
+
 pub is_over_within : (n : Netlist) (nexts : List ℕ) (l : ℕ) → HasNexts n nexts → IsOverLatch n l → variable l < length nexts
 is_over_within n nexts l table over =
     let within = slice_get_within nexts (variable over.latch.lit) over.latch.next (table.each over.place over.latch over.latch_is) in
@@ -88,7 +122,7 @@ place_of_latch n k latch is =
     get_left (map variable n.inputs ++ map (λ (k : Latch). variable k.lit) n.latches) (map gate_var n.gates) (length (map variable n.inputs) + k) (variable latch.lit)
     (get_right (map variable n.inputs) (map (λ (k : Latch). variable k.lit) n.latches) k (variable latch.lit) (get_map (λ (k : Latch). variable k.lit) n.latches k latch is))
 
-own_var : (n : Netlist) → IsSound n → (j k : ℕ) (other latch : Latch) → slice_get n.latches j ≡ Some other → slice_get n.latches k ≡ Some latch → variable other.lit ≡ variable latch.lit → j ≡ k
+pub own_var : (n : Netlist) → IsSound n → (j k : ℕ) (other latch : Latch) → slice_get n.latches j ≡ Some other → slice_get n.latches k ≡ Some latch → variable other.lit ≡ variable latch.lit → j ≡ k
 own_var n sound j k other latch at_j at_k same =
     let places = one_place (definitions n) (length (map variable n.inputs) + j) (length (map variable n.inputs) + k) (variable other.lit) (variable latch.lit) sound.once (place_of_latch n j other at_j) (place_of_latch n k latch at_k) same in
     omega (arith, places)

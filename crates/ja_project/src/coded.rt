@@ -7,7 +7,7 @@ ghost use Rattle.ja_base.specs.Invariants.{latch_value};
 ghost use Rattle.ja_base.specs.Valuation.{IsBad, next_state};
 ghost use Rattle.aig_model.specs.declared.netlist.Latch as netlist;
 ghost use Rattle.aig_model.specs.Netlist.{IsSound, circuit};
-ghost use Rattle.ja_project.specs.CodedClauses.{IsOverLatch, coded_clauses, held_literals, with_sign_of};
+ghost use Rattle.ja_project.specs.CodedClauses.{IsOverLatch, coded_clauses, held_literals, next_literal, with_sign_of};
 ghost use Rattle.ja_project.specs.Meaning.{CodesSteps, CodesAssumptions};
 
 use crate::clauses::coded_clauses;
@@ -55,7 +55,9 @@ impl Coded {
     }
 
     pub fn task(&self) -> &Task
-        ensures { result.now ≡ self.now }
+        ensures value { result.now ≡ self.now }
+        ensures sound { IsSound self.now.design }
+        ensures expected { length self.now.expected ≡ length self.now.design.bads }
     {
         &self.task
     }
@@ -92,6 +94,7 @@ impl Coded {
         requires { IsOverLatch self.now.design lit }
         ensures exact { (k : ℕ) (latch : netlist.Latch) → slice_get self.now.design.latches k ≡ Some latch
             → variable latch.lit ≡ variable lit → result ≡ with_sign_of lit latch.next }
+        ensures value { result ≡ next_literal self.now.design.latches lit }
         ensures meaning { (row : List Bool) → value row result
             ≡ latch_value (circuit self.now.design).latches (next_state (circuit self.now.design) row) lit }
         ensures below { variable result < self.now.design.vars + 1 }

@@ -2,7 +2,7 @@ use Rattle.std.proofs.Common.{List, ℕ, Bool, ◌+◌, ◌<◌, sym, ap, subst,
 use Rattle.ja_base.specs.Literals.{variable, value}
 use Rattle.ja_project.specs.Coding.{IsCoding}
 use Rattle.ja_project.proofs.CodingLemmas.{seen_as, says_next}
-use Rattle.ja_project.proofs.NextLemmas.{Says, next_is_exact, next_value, next_is_below}
+use Rattle.ja_project.proofs.NextLemmas.{Says, next_is_exact, next_is_first, next_value, next_is_below}
 use Rattle.ja_project.proofs.coded.Coded.next.Goals as goal
 
 coding : (c : goal.After-with_sign_of) → IsCoding c.args.self.now c.self.inside.clauses c.self.inside.held c.self.inside.nexts.items
@@ -17,6 +17,11 @@ pub returns-clause-exact : goal.returns-clause-exact
 returns-clause-exact c =
     λ k latch is var. c.with_sign_of.ensures
     ∙ next_is_exact c.args.self.now.design c.self.inside.nexts.items (coding c).nexts_are c.args.lit c.index-next.result.now (says c) k latch is var
+
+pub returns-clause-value : goal.returns-clause-value
+returns-clause-value c =
+    c.with_sign_of.ensures
+    ∙ next_is_first c.args.self.now.design c.self.inside.nexts.items (coding c).nexts_are c.args.lit c.index-next.result.now (says c) c.requires
 
 pub returns-clause-meaning : goal.returns-clause-meaning
 returns-clause-meaning c =

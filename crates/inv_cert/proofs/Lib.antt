@@ -1,0 +1,12 @@
+pub mod InductionLemmas
+pub mod StartLemmas
+pub mod JoinLemmas
+pub mod KnownLemmas
+pub mod ResetLemmas
+pub mod ForeignLemmas
+pub mod ProofLemmas
+pub mod LoadLemmas
+pub mod AcceptLemmas
+pub mod ValueLemmas
+pub mod ObligationLemmas
+pub mod ClosedLemmas

@@ -1,0 +1,31 @@
+-- Which clauses are closed at the start: no initial row falsifies them.
+use Rattle.std.specs.Prelude.{◌≡◌, ℕ, ◌==◌, ◌&&◌, ◌↔◌, Bool, false, Option, Some, None, List}
+use Rattle.std.specs.List.{list_any}
+use Rattle.ja_base.specs.Literals.{variable, with_sign, SatisfiedBy}
+use Rattle.ja_base.specs.Circuit.{Circuit, Latch}
+use Rattle.ja_base.specs.Runs.{IsInitial}
+use Rattle.ja_base.specs.Invariants.{latch_value}
+use Rattle.aig_model.specs.Netlist.{Netlist, IsSound, circuit}
+use Rattle.inv_cert.specs.Closed.{is_foreign}
+
+-- the literal is 1 under a reset; a latch that is free at the start has none
+abbrev pub reset_sets : Option Bool → ℕ → Bool
+reset_sets None l = false
+reset_sets (Some b) l = with_sign l b
+
+-- the literal is over a latch, and is 1 under its reset
+abbrev pub agrees_with_reset : Circuit → ℕ → Bool
+agrees_with_reset c l = list_any (λ (k : Latch). variable l == k.var && reset_sets k.reset l) c.latches
+
+-- some literal of the clause agrees with a reset
+abbrev pub starts : Circuit → List ℕ → Bool
+starts c clause = list_any (agrees_with_reset c) clause
+
+-- some initial row falsifies the clause
+abbrev pub IsFalsifiedAtStart : Circuit → List ℕ → Type 0
+IsFalsifiedAtStart c clause = (state : List Bool) × IsInitial c state × (SatisfiedBy (latch_value c.latches state) clause → ⊥)
+
+-- no literal of a clause agrees with a reset exactly where some initial row falsifies it
+abbrev pub StartsExactly : Type 0
+StartsExactly = (n : Netlist) (clause : List ℕ) → IsSound n → is_foreign (circuit n) clause ≡ false
+    → (starts (circuit n) clause ≡ false) ↔ IsFalsifiedAtStart (circuit n) clause

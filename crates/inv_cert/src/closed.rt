@@ -1,0 +1,105 @@
+//! Lists that are closed.
+
+ghost use Rattle.std.specs.Prelude.{◌≡◌, ◌+◌, ◌<◌, [], ◌∷◌, length, Some, None, All, IfOk, OnOk};
+ghost use Rattle.ja_base.specs.Answers.{IfRefused};
+ghost use Rattle.ja_base.specs.Circuit.{bad_literal};
+ghost use Rattle.ja_base.specs.Clauses.{IsBelow};
+ghost use Rattle.ja_base.specs.ClauseSets.{joined};
+ghost use Rattle.ja_base.specs.Invariants.{Covers};
+ghost use Rattle.aig_model.specs.Netlist.{circuit};
+ghost use Rattle.aig_model.specs.Task.{problem};
+ghost use Rattle.inv_cert.specs.Closed.{IsClosed};
+ghost use Rattle.inv_cert.specs.Obligations.{cover_clauses};
+ghost use Rattle.inv_cert.specs.Refusals.{AreAccepted, IsFirstRefusal, proof_refusal};
+
+use crate::check::accept_all;
+use crate::join::joined;
+use crate::load::cover_checker;
+use crate::not_closed::NotClosed;
+use crate::proof::take_proof;
+use aig_model::Task;
+use ja_base::{ClauseList, Memory, OrMemory};
+use ja_project::Coded;
+use refute_check::{Proofs, Refuted};
+use std::alloc::Global;
+use std::marker::Model;
+
+/// Clauses that are closed for a task.
+#[derive(Drop)]
+pub struct Closed {
+    pub(crate) task: Task,
+    pub(crate) clauses: ClauseList,
+}
+
+impl Model for Closed {
+    ghost use Rattle.aig_model.specs.Task.{problem};
+    ghost use Rattle.inv_cert.specs.Closed.{ClosedList, IsClosed};
+
+    ghost Value = { ClosedList };
+
+    ghost view = { λ a. record { task = a.task; clauses = a.clauses } };
+
+    ghost invariant = { λ a. IsClosed (problem a.task) a.clauses };
+}
+
+impl Closed {
+    /// The list of no clause.
+    pub fn empty(alloc: Global, task: &Task) -> Result<Closed, Memory>
+        ensures { IfOk result (λ closed. closed ≡ record { task = task.now; clauses = [] }) }
+    {
+        Ok(Closed {
+            task: task.share()?,
+            clauses: ClauseList::new(alloc),
+        })
+    }
+
+    /// The list, and behind it the candidates that it does not have, where each has a proof that is accepted: proof i is that
+    /// of candidate i, and further proofs are passed over. The task of the result is that of `coded`.
+    pub fn check(
+        alloc: Global,
+        coded: &Coded,
+        base: &Closed,
+        candidates: ClauseList,
+        proofs: Proofs,
+    ) -> Result<Closed, OrMemory<NotClosed>>
+        requires task { problem base.now.task ≡ problem coded.now }
+        requires below { All (IsBelow (coded.now.design.vars + 1)) candidates }
+        ensures closed { IfOk result (λ closed. closed ≡ record { task = coded.now; clauses = joined base.now.clauses candidates }) }
+        ensures accepted { OnOk result (AreAccepted coded.now base.now.clauses candidates proofs (length candidates)) }
+        ensures refused { IfRefused result (IsFirstRefusal coded.now base.now.clauses candidates proofs) }
+    {
+        let task = coded.task().share()?;
+        accept_all(alloc, coded, &base.clauses, &candidates, proofs)?;
+        let clauses = joined(alloc, &base.clauses, &candidates)?;
+        Ok(Closed { task, clauses })
+    }
+
+    /// Whether the proof shows that the property is broken in no row that meets the clauses, with nothing assumed. In a
+    /// refusal the number is 0.
+    pub fn covers(
+        &self,
+        alloc: Global,
+        coded: &Coded,
+        prop: u32,
+        proof: Refuted,
+    ) -> Result<(), OrMemory<NotClosed>>
+        requires task { problem self.now.task ≡ problem coded.now }
+        requires within { prop < length coded.now.design.bads }
+        ensures covered { OnOk result (Covers (circuit coded.now.design) self.now.clauses prop) }
+        ensures accepted { OnOk result (proof_refusal 0 (coded.now.design.vars + 1) (cover_clauses coded.now self.now.clauses)
+            proof.lines (bad_literal (circuit coded.now.design) prop ∷ []) ≡ None) }
+        ensures refused { IfRefused result (λ r. proof_refusal 0 (coded.now.design.vars + 1) (cover_clauses coded.now self.now.clauses)
+            proof.lines (bad_literal (circuit coded.now.design) prop ∷ []) ≡ Some r) }
+    {
+        let mut checker = cover_checker(alloc, coded, &self.clauses)?;
+        take_proof(&mut checker, 0, proof.lines, &[coded.bad(prop)])
+    }
+
+    /// The clauses, in order.
+    pub fn clauses(&self) -> &ClauseList
+        ensures list { result.now ≡ self.now.clauses }
+        ensures closed { IsClosed (problem self.now.task) self.now.clauses }
+    {
+        &self.clauses
+    }
+}
