@@ -5,6 +5,8 @@
 mod closed;
 mod closed_set;
 mod join;
+#[cfg(test)]
+mod join_tests;
 mod laws;
 mod not_closed;
 
