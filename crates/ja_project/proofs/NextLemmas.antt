@@ -89,7 +89,10 @@ first_next (x ∷ xs) l zero latch is var =
     let same : x ≡ latch = same_Some x latch is in
     let own : variable x.lit ≡ variable l = ap (λ (y : Latch). variable y.lit) same ∙ var in
     record {
-      place = 0; latch = x; latch_is = refl; var_is = own;
+      place = 0;
+      latch = x;
+      latch_is = refl;
+      var_is = own;
       next_is = sym (ap (λ (b : Bool). cond b (with_sign_of l x.next) (next_literal xs l)) (eq-eqb (variable x.lit) (variable l) own));
     }
 first_next (x ∷ xs) l (suc k) latch is var = by_test (eqb (variable x.lit) (variable l)) refl (first_next xs l k latch is var)
