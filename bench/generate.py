@@ -87,6 +87,24 @@ def refutations(variables, lines, seed=4):
     return "".join(clauses), "".join(log)
 
 
+def ring(latches):
+    """A one-hot ring with a property for each two neighbours, and one that fails: the design, the clauses that forbid two
+    neighbours at once, and a line for each that shows that it is kept from step to step under the properties."""
+    n = latches
+    lines = [f"aag {2 * n} 0 {n} 0 {n} {n + 1}", f"2 {2 * n} 1"]
+    lines += [f"{2 * (at + 1)} {2 * at}" for at in range(1, n)]
+    lines += [str(2 * (n + 1 + at)) for at in range(n)] + [str(2 * n)]
+    lines += [f"{2 * (n + 1 + at)} {2 * (at + 2)} {2 * (at + 1)}" for at in range(n - 1)] + [f"{4 * n} {2 * n} 2"]
+    pairs = [sorted([at, (at + 1) % n]) for at in range(n)]
+    clauses, proofs = [], []
+    for at in range(n):
+        before = (at - 1) % n
+        clauses.append("".join(f" {2 * latch + 3}" for latch in pairs[at]) + " ;\n")
+        hints = f" {1 + 3 * before + 2} {1 + 3 * n + before}"
+        proofs.append("".join(f" {2 * latch + 3}" for latch in pairs[before]) + " ;" + hints + "\n")
+    return "\n".join(lines) + "\n", "".join(clauses), "".join(proofs)
+
+
 def main(folder):
     folder.mkdir(parents=True, exist_ok=True)
     texts = {
@@ -104,6 +122,8 @@ def main(folder):
         "wide.stim": stimulus(0, 0, 1),
     }
     for name, text in texts.items():
+        (folder / name).write_text(text)
+    for name, text in zip(["ring.aag", "ring.clauses", "ring.proofs"], ring(300)):
         (folder / name).write_text(text)
     clauses, log = refutations(100_000, 1_000_000)
     (folder / "clauses").write_text(clauses)
