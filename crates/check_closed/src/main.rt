@@ -8,6 +8,8 @@ mod certify;
 mod obligations;
 mod proofs;
 mod report;
+#[cfg(test)]
+mod tests;
 
 use crate::certify::{Certified, certify};
 use crate::report::report;
