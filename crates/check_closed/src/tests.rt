@@ -1,3 +1,5 @@
+ghost use Rattle.std.specs.Prelude.{◌≡◌, length, IfSome};
+
 use crate::certify::{Certified, certify};
 use aig_model::{Expect, Task};
 use aiger_ascii::read_ascii;
@@ -9,15 +11,28 @@ use std::test::Fail;
 
 const RING: &[u8] = b"aag 6 0 3 0 3 3\n2 6 1\n4 2\n6 4\n8\n10\n12\n8 4 2\n10 6 4\n12 6 2\n";
 
+fn expect_failures(expect: &mut Expect)
+    ensures { length expect.new ≡ length expect.old }
+{
+    for prop in 0..expect.len() {
+        expect.set_fail(prop);
+    }
+}
+
+fn expectations(alloc: Global, props: u32, hold: bool) -> Option<Expect>
+    ensures { IfSome result (λ expect. length expect ≡ props) }
+{
+    let mut expect = Expect::all(alloc, props).ok()?;
+    if !hold {
+        expect_failures(&mut expect);
+    }
+    Some(expect)
+}
+
 /// The ring, with each property expected to hold, or each to fail.
 fn coded(alloc: Global, hold: bool) -> Option<Coded> {
     let design = read_ascii(alloc, RING).ok()?;
-    let mut expect = Expect::all(alloc, design.props()).ok()?;
-    if !hold {
-        for prop in 0..expect.len() {
-            expect.set_fail(prop);
-        }
-    }
+    let expect = expectations(alloc, design.props(), hold)?;
     let task = Task::new(alloc, design, expect).ok()?;
     Coded::new(alloc, &task).ok()
 }
