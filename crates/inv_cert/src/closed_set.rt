@@ -45,7 +45,7 @@ impl ClosedSet for Closed {
     }
 
     ghost grows = { λ t few many p covered part state input values now meets constrained.
-      covered state input values now
-      (λ k d within. All-contains (SatisfiedBy (latch_value t.circuit.latches state)) many (slice_index_or few k d) meets (part k d within))
-      constrained };
+        covered state input values now
+        (λ k d within. All-contains (SatisfiedBy (latch_value t.circuit.latches state)) many (slice_index_or few k d) meets (part k d within))
+        constrained };
 }
