@@ -13,6 +13,8 @@ mod load;
 mod not_closed;
 mod proof;
 mod start;
+#[cfg(test)]
+mod tests;
 
 pub use closed::Closed;
 pub use laws::{

@@ -1,0 +1,6 @@
+use Rattle.std.specs.List.{All}
+use Rattle.ja_base.specs.Clauses.{IsBelow}
+use Rattle.inv_cert.proofs.tests.clauses.Given as goal
+
+abbrev pub invariant-loop-numbers : goal.invariant-loop-lits
+invariant-loop-numbers g l = All (IsBelow 7) l.clauses

@@ -1,0 +1,300 @@
+//! A ring of three latches a, b, c with the numbers 2, 4, 6, of which one is 1, and a first. The property 0 is broken where a and
+//! b are 1, 1 where b and c are, 2 where a and c are. A checker has the coded clauses at 0 to 9: 1 to 3 for the gate 8 of a and b,
+//! 4 to 6 for the gate 10 of b and c, 7 to 9 for the gate 12 of a and c; the three assumptions at 10 to 12; then the lists.
+
+ghost use Rattle.std.specs.Prelude.{◌≡◌, ◌+◌, nat_lt, All, IfOk};
+ghost use Rattle.std.specs.List.{list_all};
+ghost use Rattle.ja_base.specs.Literals.{variable};
+ghost use Rattle.ja_base.specs.Clauses.{IsBelow};
+ghost use Rattle.aig_model.specs.Refusals.{AreInRange};
+ghost use Rattle.aig_model.specs.Task.{problem};
+
+use crate::{Closed, NotClosed};
+use aig_model::{AndGate, AndGates, Design, Expect, Latch, Latches, Parts, Reset, Task};
+use ja_base::{Clause, ClauseList, Lit, Lits, Memory, OrMemory};
+use ja_project::Coded;
+use refute_check::{Hints, Line, Lines, Proofs, Refuted};
+use std::alloc::Global;
+use std::process::Abort;
+use std::test::Fail;
+
+/// One or two literals, or 0 in place of one that lacks; none at all: no clause.
+type Numbers = [u32; 2];
+
+/// Not both a and b, not both a and c, not both b and c.
+const AB: Numbers = [3, 5];
+
+const AC: Numbers = [3, 7];
+
+const BC: Numbers = [5, 7];
+
+const NO: Numbers = [0, 0];
+
+/// The proof of a candidate, or of a property; the clauses of the lines stand here with their hints.
+#[derive(Clone, Copy, Debug)]
+enum Given {
+    Missing,
+    NoLine,
+    /// AC by 12 and 9: a step from a and c to a and b would have broken the property 2 before.
+    Holds,
+    /// AC by 9 alone.
+    Unfinished,
+    /// AB by 10 and 3, then AB by 10 alone.
+    SecondUnfinished,
+    /// Not 8, by 1, 2 and the clause AB at 10.
+    Covers,
+    /// Not 8, by 1 and 10.
+    CoversUnfinished,
+}
+
+fn latch(lit: u32, next: u32, reset: Reset) -> Latch
+    ensures { result ≡ record { lit = lit; next = next; reset = reset } }
+{
+    Latch {
+        lit: Lit(lit),
+        next: Lit(next),
+        reset,
+    }
+}
+
+fn gate(lhs: u32, rhs0: u32, rhs1: u32) -> AndGate
+    ensures { result ≡ record { lhs = lhs; rhs0 = rhs0; rhs1 = rhs1 } }
+{
+    AndGate {
+        lhs: Lit(lhs),
+        rhs0: Lit(rhs0),
+        rhs1: Lit(rhs1),
+    }
+}
+
+fn ring(alloc: Global) -> Result<Parts, Memory>
+    ensures { IfOk result AreInRange }
+{
+    let a = latch(2, 6, Reset::One);
+    let b = latch(4, 2, Reset::Zero);
+    let c = latch(6, 4, Reset::Zero);
+    let gates = [gate(8, 4, 2), gate(10, 6, 4), gate(12, 6, 2)];
+    let bads = [Lit(8), Lit(10), Lit(12)];
+    Ok(Parts {
+        vars: 6,
+        inputs: Lits::new(alloc),
+        latches: Latches::from_vec(Vec::from_array(alloc, [a, b, c])?),
+        bads: Lits::from_vec(Vec::from_array(alloc, bads)?),
+        constraints: Lits::new(alloc),
+        outputs: Lits::new(alloc),
+        gates: AndGates::from_vec(Vec::from_array(alloc, gates)?),
+    })
+}
+
+/// Each property is expected to hold.
+fn ring_task(alloc: Global) -> Result<Task, Fail> {
+    let design = Design::build(alloc, ring(alloc)?)?;
+    let expect = Expect::all(alloc, design.props())?;
+    Ok(Task::new(alloc, design, expect)?)
+}
+
+fn clause(alloc: Global, numbers: Numbers) -> Result<Clause, Memory> {
+    let mut lits = Lits::new(alloc);
+    for number in numbers {
+        if number != 0 {
+            lits.push(Lit(number))?;
+        }
+    }
+    Clause::from_lits(alloc, lits.as_slice())
+}
+
+fn is_below(lits: &[Lit]) -> bool
+    ensures { result ≡ list_all (λ l. nat_lt (variable l) 7) lits.now }
+{
+    lits.iter().all(|lit| lit.var().number() < 7)
+}
+
+fn clauses(rt: &impl Abort, alloc: Global, lists: &[Numbers]) -> Result<ClauseList, Memory>
+    ensures { IfOk result (All (IsBelow 7)) }
+{
+    let mut clauses = ClauseList::new(alloc);
+    for numbers in lists {
+        let clause = clause(alloc, *numbers)?;
+        if !clause.lits().is_empty() {
+            assert!(rt; is_below(clause.lits()));
+            clauses.push(clause)?;
+        }
+    }
+    Ok(clauses)
+}
+
+fn line(alloc: Global, numbers: Numbers, given: &[u32]) -> Result<Line, Memory> {
+    let mut hints = Hints::new(alloc);
+    for hint in given {
+        hints.push(*hint)?;
+    }
+    let clause = clause(alloc, numbers)?;
+    Ok(Line { clause, hints })
+}
+
+fn lines(alloc: Global, given: Given) -> Result<Lines, Memory> {
+    let mut lines = Lines::new(alloc);
+    match given {
+        Given::Missing | Given::NoLine => {}
+        Given::Holds => lines.push(line(alloc, AC, &[12, 9])?)?,
+        Given::Unfinished => lines.push(line(alloc, AC, &[9])?)?,
+        Given::SecondUnfinished => {
+            lines.push(line(alloc, AB, &[10, 3])?)?;
+            lines.push(line(alloc, AB, &[10])?)?;
+        }
+        Given::Covers => lines.push(line(alloc, [9, 0], &[1, 2, 10])?)?,
+        Given::CoversUnfinished => lines.push(line(alloc, [9, 0], &[1, 10])?)?,
+    }
+    Ok(lines)
+}
+
+fn proof(alloc: Global, given: Given) -> Result<Refuted, Memory> {
+    Ok(Refuted {
+        core: Lits::new(alloc),
+        lines: lines(alloc, given)?,
+    })
+}
+
+fn proofs(alloc: Global, all: &[Given]) -> Result<Proofs, Memory> {
+    let mut proofs = Proofs::new(alloc);
+    for given in all {
+        if !matches!(given, Given::Missing) {
+            proofs.push(proof(alloc, *given)?)?;
+        }
+    }
+    Ok(proofs)
+}
+
+fn check(
+    rt: &impl Abort,
+    alloc: Global,
+    coded: &Coded,
+    base: &Closed,
+    candidates: &[Numbers],
+    given: &[Given],
+) -> Result<Result<Closed, NotClosed>, Memory>
+    requires { problem base.now.task ≡ problem coded.now }
+    ensures { IfOk result (λ answer. IfOk answer (λ closed. closed.task ≡ coded.now)) }
+{
+    assert!(rt; coded.vars() == 7);
+    let candidates = clauses(rt, alloc, candidates)?;
+    match Closed::check(alloc, coded, base, candidates, proofs(alloc, given)?) {
+        Ok(closed) => Ok(Ok(closed)),
+        Err(OrMemory::Refused(refusal)) => Ok(Err(refusal)),
+        Err(OrMemory::Memory) => Err(Memory),
+    }
+}
+
+fn covers(
+    rt: &impl Abort,
+    alloc: Global,
+    coded: &Coded,
+    list: &Closed,
+    prop: u32,
+    given: Given,
+) -> Result<Result<(), NotClosed>, Memory>
+    requires { problem list.now.task ≡ problem coded.now }
+{
+    assert!(rt; prop < coded.task().design().props());
+    match list.covers(alloc, coded, prop, proof(alloc, given)?) {
+        Ok(()) => Ok(Ok(())),
+        Err(OrMemory::Refused(refusal)) => Ok(Err(refusal)),
+        Err(OrMemory::Memory) => Err(Memory),
+    }
+}
+
+/// The clauses of a list, if it has at most two.
+fn numbers(list: &ClauseList) -> [Numbers; 2] {
+    let mut numbers = [NO, NO];
+    for (row, clause) in numbers.iter_mut().zip(list.as_slice()) {
+        for (number, lit) in row.iter_mut().zip(clause.lits()) {
+            *number = lit.number();
+        }
+    }
+    numbers
+}
+
+// The candidates AB and BC stand at 13 and 14: with AB before it, BC needs no line.
+#[test]
+fn checks_candidates(rt: HostRuntime) -> Result<(), Fail> {
+    use Given::{Holds, Missing, NoLine, SecondUnfinished, Unfinished};
+    let alloc = rt.alloc();
+    let task = ring_task(alloc)?;
+    let coded = Coded::new(alloc, &task)?;
+    let rows = [
+        ([NO, NO], [Missing, Missing], Ok([NO, NO])),
+        ([AB, NO], [Holds, Missing], Ok([AB, NO])),
+        ([AB, NO], [Holds, NoLine], Ok([AB, NO])),
+        ([AB, AB], [Holds, Holds], Ok([AB, NO])),
+        ([AB, BC], [Holds, NoLine], Ok([AB, BC])),
+        ([AB, NO], [Missing, Missing], Err(NotClosed::Missing(0))),
+        ([AB, BC], [Holds, Missing], Err(NotClosed::Missing(1))),
+        (
+            [[8, 0], [4, 0]],
+            [Missing, Missing],
+            Err(NotClosed::Foreign(0)),
+        ),
+        ([AB, [2, 3]], [Holds, Missing], Err(NotClosed::Foreign(1))),
+        (
+            [[4, 0], [8, 0]],
+            [Missing, Missing],
+            Err(NotClosed::Start(0)),
+        ),
+        ([AB, [3, 6]], [Holds, Missing], Err(NotClosed::Start(1))),
+        (
+            [AB, NO],
+            [Unfinished, Missing],
+            Err(NotClosed::Line(0, 0, 1)),
+        ),
+        (
+            [AB, BC],
+            [Holds, SecondUnfinished],
+            Err(NotClosed::Line(1, 1, 1)),
+        ),
+        ([AB, NO], [NoLine, Holds], Err(NotClosed::Left(0))),
+        ([AB, AC], [Holds, NoLine], Err(NotClosed::Left(1))),
+    ];
+    let base = Closed::empty(alloc, &task)?;
+    for (candidates, given, expected) in rows {
+        let answer = check(&rt, alloc, &coded, &base, &candidates, &given)?;
+        assert_eq!(rt;
+            answer.map(|closed| numbers(closed.clauses())),
+            expected,
+            "{candidates:?} by {given:?}"
+        );
+    }
+    Ok(())
+}
+
+// The checker of a property has the list at 10, and no assumption.
+#[test]
+fn goes_on_from_a_list(rt: HostRuntime) -> Result<(), Fail> {
+    use Given::{Covers, CoversUnfinished, Holds, Missing, NoLine};
+    let alloc = rt.alloc();
+    let task = ring_task(alloc)?;
+    let coded = Coded::new(alloc, &task)?;
+    let none = Closed::empty(alloc, &task)?;
+    let Ok(base) = check(&rt, alloc, &coded, &none, &[AB], &[Holds])? else {
+        panic!(rt; "not closed");
+    };
+    let rows = [
+        (0, Covers, Ok(())),
+        (1, Covers, Err(NotClosed::Left(0))),
+        (0, NoLine, Err(NotClosed::Left(0))),
+        (0, CoversUnfinished, Err(NotClosed::Line(0, 0, 2))),
+    ];
+    for (prop, given, expected) in rows {
+        assert_eq!(rt; covers(&rt, alloc, &coded, &base, prop, given)?, expected);
+    }
+    let rows = [
+        ([AB, NO], [Holds, Missing], [AB, NO]),
+        ([BC, NO], [NoLine, Missing], [AB, BC]),
+    ];
+    for (candidates, given, expected) in rows {
+        let Ok(closed) = check(&rt, alloc, &coded, &base, &candidates, &given)? else {
+            panic!(rt; "{candidates:?} by {given:?}");
+        };
+        assert_eq!(rt; numbers(closed.clauses()), expected);
+    }
+    Ok(())
+}
