@@ -1,5 +1,5 @@
-//! The yardstick of the checker: `check_log CLAUSES LOG` as plain Rust over `Vec`s, with the same checks and the same answers,
-//! and no proof. Built by `bench/run` with `rustc -O`.
+//! The yardstick of the checker: `check_log CLAUSES LOG` and `check_closed DESIGN CLAUSES PROOFS` as plain Rust over `Vec`s, with
+//! the same checks and the same answers, and no proof. Built by `bench/run` with `rustc -O`.
 
 use std::process::exit;
 
@@ -96,8 +96,77 @@ fn refusal(values: &mut [bool], trail: &mut Vec<u32>, clauses: &[Vec<u32>], line
     answer
 }
 
+/// The lines of a design without inputs, outputs, constraints and undefined variables, as numbers.
+fn design(name: &str) -> Option<Vec<Vec<u32>>> {
+    let text = std::fs::read_to_string(name).ok()?;
+    let numbers = |line: &str| line.trim_start_matches("aag ").split(' ').map(|word| word.parse().ok()).collect();
+    text.lines().map(numbers).collect()
+}
+
+fn sorted(mut clause: Vec<u32>) -> Vec<u32> {
+    clause.sort_unstable();
+    clause.dedup();
+    clause
+}
+
+/// What the clauses say of a step: the constant, the gates, and that each property holds.
+fn step_clauses(gates: &[Vec<u32>], bads: &[Vec<u32>]) -> Vec<Vec<u32>> {
+    let mut clauses = vec![vec![1]];
+    for gate in gates {
+        clauses.push(sorted(vec![gate[0] ^ 1, gate[1]]));
+        clauses.push(sorted(vec![gate[0] ^ 1, gate[2]]));
+        clauses.push(sorted(vec![gate[0], gate[1] ^ 1, gate[2] ^ 1]));
+    }
+    clauses.extend(bads.iter().map(|bad| vec![bad[0] ^ 1]));
+    clauses
+}
+
+/// Whether each clause starts and is kept from step to step, as its proof shows, which is one line.
+fn closed(design: &[Vec<u32>], candidates: &[Line], proofs: &[Line]) -> Option<bool> {
+    let [_, inputs, latches, _, gates, bads] = design.first()?[..] else {
+        return None;
+    };
+    let (latch_lines, rest) = design[1 + inputs as usize..].split_at(latches as usize);
+    let (bad_lines, gate_lines) = rest.split_at(bads as usize);
+    let mut latch_of = vec![None; VARS];
+    for latch in latch_lines {
+        latch_of[latch[0] as usize / 2] = Some((latch[1], latch.get(2).copied().unwrap_or(0)));
+    }
+    let mut clauses = step_clauses(&gate_lines[..gates as usize], bad_lines);
+    clauses.extend(candidates.iter().map(|line| line.clause.clone()));
+    let (mut values, mut trail) = (vec![false; 2 * VARS], Vec::new());
+    for (candidate, proof) in candidates.iter().zip(proofs) {
+        let mut starts = false;
+        let mut under = Vec::new();
+        for lit in &candidate.clause {
+            let (next, reset) = latch_of[*lit as usize / 2]?;
+            starts |= reset < 2 && reset != lit % 2;
+            under.push(next ^ (lit % 2) ^ 1);
+        }
+        if !starts || refusal(&mut values, &mut trail, &clauses, proof).is_some() {
+            return Some(false);
+        }
+        clauses.push(proof.clause.clone());
+        let is_false = |clause: &Vec<u32>| clause.iter().all(|lit| under.contains(&(lit ^ 1)));
+        if !clauses.iter().rev().any(is_false) {
+            return Some(false);
+        }
+        clauses.pop();
+    }
+    Some(candidates.len() <= proofs.len())
+}
+
 fn main() {
     let words: Vec<String> = std::env::args().skip(1).collect();
+    if let [name, clauses, proofs] = &words[..] {
+        match (design(name), lines(clauses), lines(proofs)) {
+            (Some(design), Some(clauses), Some(proofs)) if closed(&design, &clauses, &proofs) == Some(true) => {
+                println!("closed {}", clauses.len());
+            }
+            _ => exit(3),
+        }
+        return;
+    }
     let (Some(list), Some(log)) = (lines(&words[0]), lines(&words[1])) else {
         exit(3);
     };

@@ -23,11 +23,6 @@ IsInductive-same c set a b part whole h = record {
       All-part (SatisfiedBy (latch_value c.latches (next_state c values))) a b (h.steps state input values now old constrained held) part;
 }
 
--- a property is covered by each list that has all clauses of one that covers it
-pub Covers-more : (c : Circuit) (few many : List (List ℕ)) (p : ℕ) → Covers c few p → All (Contains many) few → Covers c many p
-Covers-more c few many p covers part state input values now meets constrained =
-    covers state input values now (All-part (SatisfiedBy (latch_value c.latches state)) many few meets part) constrained
-
 pub first_is_part : {X : Type 0} (a b : List X) → All (Contains (a ++ b)) a
 first_is_part a b k d h = Contains-append_left a b (get_or a k d) (Contains-get_or a k d h)
 

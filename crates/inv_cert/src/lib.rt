@@ -6,6 +6,8 @@ mod check;
 mod closed;
 mod closed_set;
 mod join;
+#[cfg(test)]
+mod join_tests;
 mod laws;
 mod load;
 mod not_closed;

@@ -1,10 +1,8 @@
 -- The clause of some literals: it ascends, it has these literals, and it holds where one of them does.
-use Rattle.std.proofs.Common.{◌≡◌, ℕ, ◌<◌, ◌≤◌, ◌==◌, ◌||◌, eqb, ltb, Bool, true, false, cond, List, [], ◌∷◌, refl, sym, ap, ◌∙◌, arith, eqb-true}
-use Rattle.std.specs.Prelude.{Contains}
+use Rattle.std.proofs.Common.{◌≡◌, ℕ, ◌<◌, ◌||◌, eqb, ltb, Bool, true, false, cond, List, [], ◌∷◌, refl, sym, ap, ◌∙◌, arith, eqb-true}
 use Rattle.std.specs.List.{AllByRecursion, list_any}
-use Rattle.std.specs.List.Sorted.{IsStrictlyIncreasing}
 use Rattle.std.proofs.lemmas.Bool.Decides.{nat_tests}
-use Rattle.ja_base.specs.Clauses.{IsSetOf, has_literal}
+use Rattle.ja_base.specs.Clauses.{IsSetOf}
 use Rattle.ja_base.proofs.ClauseLemmas.{IsAbove, IsAbove-lower, Ascends, Ascends-from_increasing, has_literal_decides}
 use Rattle.ja_project.specs.CodedClauses.{with_literal, clause_of}
 use Rattle.ja_project.proofs.SetLemmas.{IsPart, same_members}

@@ -1,5 +1,5 @@
 -- The variables that are marked are those that the circuit defines.
-use Rattle.std.proofs.Common.{◌≡◌, ℕ, suc, ◌+◌, ◌<◌, ◌≤◌, ◌||◌, eqb, Bool, true, false, cond, List, [], ◌∷◌, ◌++◌, length, get_or, set, take, map, Some, is_some, replicate, slice_get, refl, sym, ap, ◌∙◌, arith, add-one, length-set, get_or-set_other, get_or-set_same, ◌⊎◌, inl, inr}
+use Rattle.std.proofs.Common.{◌≡◌, ℕ, ◌+◌, ◌<◌, ◌≤◌, ◌||◌, eqb, Bool, true, false, cond, List, [], ◌∷◌, ◌++◌, length, set, take, map, Some, is_some, replicate, slice_get, refl, sym, ap, ◌∙◌, arith, add-one, length-set, get_or-set_other, get_or-set_same, ◌⊎◌, inl, inr}
 use Rattle.std.specs.FinMap as finite_map
 use Rattle.std.specs.FinMap.{get-from_entries, find}
 use Rattle.std.specs.Cmp.{nat_cmp_total, unsigned_tied}
@@ -7,7 +7,7 @@ use Rattle.std.specs.Ordering.{nat_cmp, eq_by_cmp}
 use Rattle.std.specs.List.{list_any}
 use Rattle.std.proofs.Math.Bool.{or-false}
 use Rattle.std.proofs.Math.Seq.{take-suc}
-use Rattle.std.proofs.lemmas.Bool.{cases_Bool, cases_lt, eqb-true, eqb-false, eq-eqb}
+use Rattle.std.proofs.lemmas.Bool.{cases_Bool, cases_lt, eqb-true, eqb-false}
 use Rattle.std.proofs.lemmas.List.{take_all, map-append, get_or-replicate, get_or_past, length-replicate}
 use Rattle.std.proofs.lemmas.List.Folds.{list_any-append}
 use Rattle.std.proofs.lemmas.Option.{get_or_from_slice_get, slice_get_within}

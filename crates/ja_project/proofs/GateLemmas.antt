@@ -1,5 +1,5 @@
 -- What a gate's clauses say, and where the circuit has the gate.
-use Rattle.std.proofs.Common.{◌≡◌, ℕ, zero, suc, ◌+◌, ◌*◌, ◌%◌, ◌&&◌, ◌||◌, eqb, Bool, true, false, not, cond, List, [], ◌∷◌, ◌++◌, length, map, Option, Some, None, slice_get, refl, sym, ap, subst, ◌∙◌, arith}
+use Rattle.std.proofs.Common.{◌≡◌, ℕ, zero, suc, ◌+◌, ◌%◌, ◌&&◌, ◌||◌, Bool, true, false, not, cond, List, [], ◌∷◌, ◌++◌, length, map, Option, Some, slice_get, refl, sym, ap, ◌∙◌, arith}
 use Rattle.std.specs.FinMap as finite_map
 use Rattle.std.specs.FinMap.{get-from_entries, find}
 use Rattle.std.specs.Cmp.{nat_cmp_total, unsigned_tied}
@@ -7,14 +7,14 @@ use Rattle.std.specs.Ordering.{nat_cmp, eq_by_cmp}
 use Rattle.std.specs.List.{AllByRecursion}
 use Rattle.std.proofs.lemmas.Bool.{eq-eqb}
 use Rattle.std.proofs.lemmas.Bool.Decides.{nat_tests}
-use Rattle.ja_base.specs.Literals.{bit, variable, is_negated, negated, value, literal_of, SatisfiedBy}
+use Rattle.ja_base.specs.Literals.{bit, variable, is_negated, negated, value, SatisfiedBy}
 use Rattle.ja_base.proofs.LiteralLemmas.{value_negated}
 use Rattle.aig_model.specs.declared.netlist.AndGate.{AndGate}
 use Rattle.aig_model.specs.declared.netlist.Latch.{Latch}
 use Rattle.aig_model.specs.Netlist.{Netlist, IsSound, circuit, definitions, entry_of, gate_var}
-use Rattle.aig_model.proofs.GateHeights.{HasEntry, entry_has_gate}
+use Rattle.aig_model.proofs.GateHeights.{entry_has_gate}
 use Rattle.aig_model.proofs.Places.{get_right, get_map, one_place}
-use Rattle.ja_project.specs.CodedClauses.{clause_of, gate_clauses}
+use Rattle.ja_project.specs.CodedClauses.{gate_clauses}
 use Rattle.ja_project.proofs.ClauseLemmas.{any_clause}
 
 gate_from : (g a b : Bool) → (not g || (a || false)) ≡ true → (not g || (b || false)) ≡ true → (g || (not a || (not b || false))) ≡ true → g ≡ (a && b)

@@ -1,5 +1,5 @@
 -- The held literals are 1 exactly where no property that is expected to hold is broken.
-use Rattle.std.proofs.Common.{◌≡◌, ℕ, ◌+◌, ◌<◌, ◌≤◌, Bool, true, false, not, cond, List, [], ◌∷◌, length, get_or, slice_get, Some, refl, sym, ap, ◌∙◌, arith, inl, inr}
+use Rattle.std.proofs.Common.{◌≡◌, ℕ, ◌+◌, ◌<◌, Bool, true, false, not, cond, List, [], ◌∷◌, length, refl, sym, ap, ◌∙◌, arith, inl, inr}
 use Rattle.std.specs.Prelude.{All}
 use Rattle.std.specs.List.{AllByRecursion, range_with_len}
 use Rattle.std.proofs.lemmas.Bool.{cases_lt}
@@ -9,7 +9,7 @@ use Rattle.std.proofs.lemmas.Option.{slice_get-get_or}
 use Rattle.ja_base.specs.Literals.{bit, variable, negated, value}
 use Rattle.ja_base.specs.Circuit.{bad_literal}
 use Rattle.ja_base.specs.Clauses.{IsBelow}
-use Rattle.ja_base.specs.Valuation.{AssumptionsHold, IsGood}
+use Rattle.ja_base.specs.Valuation.{AssumptionsHold}
 use Rattle.ja_base.proofs.LiteralLemmas.{value_negated}
 use Rattle.aig_model.specs.Netlist.{IsSound, circuit}
 use Rattle.aig_model.specs.Task.{VerificationTask}

@@ -1,9 +1,8 @@
 -- What a literal over a latch says one step later.
-use Rattle.std.proofs.Common.{◌≡◌, ◌≢◌, ℕ, zero, suc, ◌+◌, ◌<◌, ◌≤◌, ◌==◌, eqb, Bool, true, false, not, cond, List, [], ◌∷◌, ◌++◌, length, map, set, Option, Some, slice_get, refl, sym, ap, ◌∙◌, arith, ◌⊎◌, inl, inr, length-set}
-use Rattle.std.proofs.lemmas.Bool.{cases_order, eqb-true, eqb-false, eq-eqb}
-use Rattle.std.proofs.lemmas.Bool.Decides.{nat_tests}
+use Rattle.std.proofs.Common.{◌≡◌, ◌≢◌, ℕ, zero, suc, ◌+◌, ◌<◌, ◌≤◌, eqb, Bool, true, false, not, cond, List, [], ◌∷◌, ◌++◌, length, map, set, Some, slice_get, refl, sym, ap, ◌∙◌, arith, ◌⊎◌, inl, inr, length-set}
+use Rattle.std.proofs.lemmas.Bool.{cases_order, eqb-true, eq-eqb}
 use Rattle.std.proofs.lemmas.Option.{same_Some, slice_get_within}
-use Rattle.ja_base.specs.Literals.{bit, variable, is_negated, negated, value, with_sign}
+use Rattle.ja_base.specs.Literals.{variable, is_negated, negated, value, with_sign}
 use Rattle.ja_base.specs.Circuit as plain
 use Rattle.ja_base.specs.Invariants.{latch_value}
 use Rattle.ja_base.specs.Valuation.{next_state}
@@ -90,7 +89,10 @@ first_next (x ∷ xs) l zero latch is var =
     let same : x ≡ latch = same_Some x latch is in
     let own : variable x.lit ≡ variable l = ap (λ (y : Latch). variable y.lit) same ∙ var in
     record {
-      place = 0; latch = x; latch_is = refl; var_is = own;
+      place = 0;
+      latch = x;
+      latch_is = refl;
+      var_is = own;
       next_is = sym (ap (λ (b : Bool). cond b (with_sign_of l x.next) (next_literal xs l)) (eq-eqb (variable x.lit) (variable l) own));
     }
 first_next (x ∷ xs) l (suc k) latch is var = by_test (eqb (variable x.lit) (variable l)) refl (first_next xs l k latch is var)

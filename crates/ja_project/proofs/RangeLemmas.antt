@@ -1,5 +1,5 @@
 -- Lists that a loop makes, over a list or over a range.
-use Rattle.std.proofs.Common.{◌≡◌, ℕ, zero, suc, ◌+◌, ◌≤◌, List, [], ◌∷◌, ◌++◌, Some, length, map, take, slice_get, refl, sym, ap, ◌∙◌, append_assoc, arith, add-one}
+use Rattle.std.proofs.Common.{◌≡◌, ℕ, zero, suc, ◌+◌, ◌≤◌, List, [], ◌∷◌, ◌++◌, Some, length, map, take, slice_get, sym, ap, ◌∙◌, append_assoc, arith, add-one}
 use Rattle.std.specs.List.{flat_map, range_with_len}
 use Rattle.std.proofs.Math.Seq.{take-suc}
 use Rattle.std.proofs.lemmas.List.{append-nil, map-append, take_all}
@@ -20,7 +20,7 @@ flat_range_more {X} f before now next a n m u e is so_far made =
     let one : flat_map f (u ∷ []) ≡ f u = flat_map-cons f u [] ∙ append-nil (f u) in
     let all : flat_map f (range_with_len a m) ≡ flat_map f (range_with_len a n) ++ f u
     = ap (λ (k : ℕ). flat_map f (range_with_len a k)) e ∙ ap (flat_map f) (range_more a n ∙ ap (λ (k : ℕ). range_with_len a n ++ k ∷ []) (sym is))
-      ∙ flat_map-append f (range_with_len a n) (u ∷ []) ∙ ap (λ (xs : List X). flat_map f (range_with_len a n) ++ xs) one in
+    ∙ flat_map-append f (range_with_len a n) (u ∷ []) ∙ ap (λ (xs : List X). flat_map f (range_with_len a n) ++ xs) one in
     made ∙ ap (λ (xs : List X). xs ++ f u) so_far ∙ append_assoc before (flat_map f (range_with_len a n)) (f u) ∙ ap (λ (xs : List X). before ++ xs) (sym all)
 
 take_more : {A : Type 0} (xs : List A) (i : ℕ) (x : A) → slice_get xs i ≡ Some x → take (i + 1) xs ≡ take i xs ++ x ∷ []

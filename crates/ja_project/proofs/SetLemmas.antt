@@ -44,4 +44,3 @@ same_members (x ∷ xs) (y ∷ ys) g h p q =
     let same = same_first x y xs ys g.0 h.0 (first_or_later x y xs (q y (first y ys))) (first_or_later y x ys (p x (first x xs))) in
     let others = same_members xs ys g.1 h.1 (part_behind x y xs ys same g.0 p) (part_behind y x ys xs (sym same) h.0 q) in
     ap (λ (k : ℕ). k ∷ xs) same ∙ ap (λ (ks : List ℕ). y ∷ ks) others
-

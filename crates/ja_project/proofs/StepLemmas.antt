@@ -1,20 +1,18 @@
 -- The clauses of a sound design hold exactly at its steps under the constraints.
-use Rattle.std.proofs.Common.{◌≡◌, ℕ, ◌+◌, ◌*◌, ◌<◌, ◌≤◌, ◌&&◌, ◌||◌, eqb, Bool, true, false, not, cond, List, [], ◌∷◌, ◌++◌, length, map, Some, slice_get, refl, sym, ap, subst, ◌∙◌, arith, inl, inr}
+use Rattle.std.proofs.Common.{◌≡◌, ℕ, ◌+◌, ◌<◌, ◌≤◌, ◌&&◌, ◌||◌, Bool, true, false, not, cond, List, [], ◌∷◌, ◌++◌, length, map, Some, slice_get, refl, sym, ap, ◌∙◌, arith, inl, inr}
 use Rattle.std.specs.FinMap as finite_map
-use Rattle.std.specs.Prelude.{All}
 use Rattle.std.specs.List.{AllByRecursion, flat_map, range_with_len}
-use Rattle.std.proofs.Math.Bool.{or-false}
 use Rattle.std.proofs.lemmas.Bool.{cases_lt}
 use Rattle.std.proofs.lemmas.Bool.Decides.{nat_tests}
 use Rattle.std.proofs.lemmas.List.{get_or_past}
 use Rattle.std.proofs.lemmas.List.Elements.{All-from_recursion, recursion_from_All}
-use Rattle.ja_base.specs.Literals.{bit, variable, is_negated, negated, value, literal_of, SatisfiedBy, AllSatisfiedBy}
+use Rattle.ja_base.specs.Literals.{bit, variable, is_negated, value, literal_of, SatisfiedBy, AllSatisfiedBy}
 use Rattle.ja_base.specs.Circuit.{is_defined}
-use Rattle.ja_base.specs.Valuation.{IsValuation, MeetsConstraints, latch_row, input_row}
+use Rattle.ja_base.specs.Valuation.{MeetsConstraints, latch_row, input_row}
 use Rattle.aig_model.specs.declared.netlist.AndGate.{AndGate}
 use Rattle.aig_model.specs.Netlist.{Netlist, IsSound, circuit, gate_var}
 use Rattle.aig_model.proofs.GateHeights.{entry_has_gate}
-use Rattle.ja_project.specs.CodedClauses.{clause_of, gate_clauses, undefined_clauses, coded_clauses}
+use Rattle.ja_project.specs.CodedClauses.{gate_clauses, undefined_clauses, coded_clauses}
 use Rattle.ja_project.specs.Meaning.{IsLegalStep, CodesSteps}
 use Rattle.ja_project.proofs.EachLemmas.{each_left, each_right, each_joined, each_at, each_from_places, each_mapped, each_unmapped, each_flattened, each_unflattened, each_in_range, each_of_range}
 use Rattle.ja_project.proofs.GateLemmas.{value_even, gate_holds, holds_gate, gate_of_circuit}
@@ -121,18 +119,19 @@ module _ (n : Netlist) (sound : IsSound n) (row : List Bool) (width : length row
 
   step_from_clauses : AllSatisfiedBy (value row) (coded_clauses n) → IsLegalStep n row
   step_from_clauses all =
-      let h = parts_of (SatisfiedBy (value row)) n (recursion_from_All (SatisfiedBy (value row)) (coded_clauses n) all) in
-      (latch_row (circuit n) row,
-      input_row (circuit n) row,
-      record {
-        width = width;
-        constant = not_false (bit row 0) (one_held (not (bit row 0)) h.constant);
-        latches = refl;
-        inputs = refl;
-        gates = gates_are h;
-        rest = rest_is_0 h;
-      },
-      constraints_hold h)
+      let h = parts_of (SatisfiedBy (value row)) n (recursion_from_All (SatisfiedBy (value row)) (coded_clauses n) all) in (
+        latch_row (circuit n) row,
+        input_row (circuit n) row,
+        record {
+          width = width;
+          constant = not_false (bit row 0) (one_held (not (bit row 0)) h.constant);
+          latches = refl;
+          inputs = refl;
+          gates = gates_are h;
+          rest = rest_is_0 h;
+        },
+        constraints_hold h,
+      )
 
   clauses_from_step : IsLegalStep n row → AllSatisfiedBy (value row) (coded_clauses n)
   clauses_from_step step =

@@ -1,5 +1,5 @@
 -- A design as a list of clauses over its variables, and the literals that say what its task asks.
-use Rattle.std.specs.Prelude.{◌≡◌, ℕ, ◌+◌, ◌==◌, nat_lt, Bool, true, if◌then◌else◌, Some, List, [], ◌∷◌, ◌++◌, length, map, flat_map, slice_get}
+use Rattle.std.specs.Prelude.{◌≡◌, ℕ, ◌==◌, nat_lt, true, if◌then◌else◌, Some, List, [], ◌∷◌, ◌++◌, length, map, flat_map, slice_get}
 use Rattle.std.specs.List.{range_with_len}
 use Rattle.ja_base.specs.Literals.{bit, variable, is_negated, negated, literal_of}
 use Rattle.ja_base.specs.Circuit.{bad_literal, is_defined}
@@ -52,7 +52,7 @@ pub record IsOverLatch (n : Netlist) (l : ℕ) : Type 0 where
   pub latch_is : slice_get n.latches place ≡ Some latch
   pub var_is : variable latch.lit ≡ variable l
 
--- the literal of the same sign over what this literal says
+-- the next literal of a latch, negated where the literal over the latch is
 abbrev pub with_sign_of : ℕ → ℕ → ℕ
 with_sign_of l next = if is_negated l then negated next else next
 

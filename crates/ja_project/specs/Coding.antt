@@ -1,4 +1,4 @@
--- What is kept of a task, and how it is made.
+-- What a coded task keeps, and how it is made.
 use Rattle.std.specs.Prelude.{◌≡◌, ℕ, ◌+◌, ◌==◌, ◌||◌, Bool, Some, List, length, slice_get}
 use Rattle.std.specs.List.{list_any}
 use Rattle.ja_base.specs.Literals.{bit, variable}
@@ -12,6 +12,7 @@ pub record HasNexts (n : Netlist) (nexts : List ℕ) : Type 0 where
   pub width : length nexts ≡ n.vars + 1
   pub each : (k : ℕ) (latch : Latch) → slice_get n.latches k ≡ Some latch → slice_get nexts (variable latch.lit) ≡ Some latch.next
 
+-- the clauses, the held literals and the table of this task, which is well formed
 pub record IsCoding (t : VerificationTask) (clauses : List (List ℕ)) (held nexts : List ℕ) : Type 0 where
   pub sound : IsSound t.design
   pub expected : length t.expected ≡ length t.design.bads

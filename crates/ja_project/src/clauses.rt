@@ -53,11 +53,7 @@ fn add_undefined(
     Ok(())
 }
 
-fn add_all_undefined(
-    alloc: Global,
-    clauses: &mut ClauseList,
-    design: &Design,
-) -> Result<(), Memory>
+fn add_all_undefined(alloc: Global, clauses: &mut ClauseList, design: &Design) -> Result<(), Memory>
     ensures { OnOk result (clauses.new ≡ clauses.old ++ flat_map (undefined_clauses design.now) (range_with_len 1 design.now.vars)) }
 {
     let defined = defined_vars(alloc, design)?;

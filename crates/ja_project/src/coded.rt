@@ -70,7 +70,8 @@ impl Coded {
         self.task.design().vars() + 1
     }
 
-    /// The clauses in the order that is fixed for a design.
+    /// In this order: that the constant is 0, three clauses for each gate in the design's order, that each variable which nothing
+    /// defines is 0, by ascending variable, and that each constraint is 1, in the file's order.
     pub fn clauses(&self) -> &ClauseList
         ensures list { result.now ≡ coded_clauses self.now.design }
         ensures meaning { CodesSteps self.now.design result.now }

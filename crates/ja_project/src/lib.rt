@@ -8,6 +8,8 @@ mod defined;
 mod held;
 mod laws;
 mod nexts;
+#[cfg(test)]
+mod tests;
 
 pub use coded::Coded;
 pub use laws::{coded_clauses_mean_steps, held_literals_mean_assumptions};

@@ -21,7 +21,7 @@ pub fn next_table(alloc: Global, design: &Design) -> Result<Vec<Lit>, Memory>
     Ok(nexts)
 }
 
-/// What a literal over a latch says, where its variable says `next`.
+/// The next literal of a latch, or its negation where the literal over the latch is negated.
 pub fn with_sign_of(lit: Lit, next: Lit) -> Lit
     ensures { result ≡ with_sign_of lit next }
 {

@@ -1,6 +1,9 @@
 ghost use Rattle.std.specs.Prelude.{◌<◌};
 
 use crate::{confirm_run, jasign_run};
+use aig_model::Design;
+use aiger_ascii::read_ascii;
+use aiger_binary::read_binary;
 use ja_outside::{MemShelf, MemSink};
 use std::alloc::{AllocError, Global};
 use std::test::Fail;
@@ -729,6 +732,58 @@ fn expectations(rt: HostRuntime) -> Result<(), Fail> {
             &["confirm", "d", "s", "e"],
         )?;
     }
+    Ok(())
+}
+
+fn same_latches(a: &Design, b: &Design) -> bool {
+    if a.latches() != b.latches() {
+        return false;
+    }
+    for at in 0..a.latches() {
+        if a.latch(at) != b.latch(at) {
+            return false;
+        }
+    }
+    true
+}
+
+fn same_gates(a: &Design, b: &Design) -> bool {
+    if a.gates() != b.gates() {
+        return false;
+    }
+    for at in 0..a.gates() {
+        if a.gate(at) != b.gate(at) {
+            return false;
+        }
+    }
+    true
+}
+
+fn same_bads(a: &Design, b: &Design) -> bool {
+    if a.props() != b.props() {
+        return false;
+    }
+    for at in 0..a.props() {
+        if a.bad(at) != b.bad(at) {
+            return false;
+        }
+    }
+    true
+}
+
+#[test]
+fn both_forms_give_one_design(rt: HostRuntime) -> Result<(), Fail> {
+    let alloc = rt.alloc();
+    let ascii = read_ascii(alloc, RING).ok().ok_or("refused in ASCII")?;
+    let binary = read_binary(alloc, BINARY_RING)
+        .ok()
+        .ok_or("refused in binary")?;
+    assert_eq!(rt; ascii.vars(), binary.vars());
+    assert_eq!(rt; ascii.inputs(), binary.inputs());
+    assert_eq!(rt; ascii.constraints(), binary.constraints());
+    assert!(rt; same_latches(&ascii, &binary));
+    assert!(rt; same_gates(&ascii, &binary));
+    assert!(rt; same_bads(&ascii, &binary));
     Ok(())
 }
 

@@ -1,5 +1,5 @@
 //! The checker of refutations: each line of a log is accepted by unit propagation over the clauses before it, as
-//! `specs/Lines.antt` says; `specs/Refuted.antt` says what is shown by it.
+//! `specs/Lines.antt` says; `specs/Refuted.antt` says what is shown by it. Solvers share its numbered clauses and its scan.
 #![tactic(auto)]
 
 mod checker;

@@ -56,6 +56,7 @@ impl Numbered {
         self.clauses.as_slice().get(at as usize)
     }
 
+    /// The clause of this number.
     pub fn clause(&self, at: u32) -> &Clause
         requires { at < length self.now.list }
         ensures { slice_get self.now.list at ≡ Some result.now }

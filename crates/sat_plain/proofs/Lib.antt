@@ -1,6 +1,9 @@
 pub mod Members
 pub mod TrailLemmas
+pub mod AssumedLemmas
 pub mod DeriveLemmas
+pub mod ResolveLemmas
+pub mod FinishLemmas
 pub mod PlaceLemmas
 pub mod StepLemmas
 pub mod WalkLemmas

@@ -1,6 +1,6 @@
 -- The row of a trail that gives each variable a value.
-use Rattle.std.proofs.Common.{◌≡◌, ℕ, ◌+◌, ◌*◌, ◌%◌, ◌<◌, ◌⊎◌, Bool, true, false, not, cond, List, length, get_or, inl, inr, refl, sym, subst, ◌∙◌, ap, arith}
-use Rattle.std.specs.List.{All, Contains, list_any}
+use Rattle.std.proofs.Common.{◌≡◌, ℕ, ◌+◌, ◌*◌, ◌%◌, ◌<◌, Bool, true, false, not, cond, List, length, get_or, inl, inr, refl, sym, subst, ◌∙◌, ap, arith}
+use Rattle.std.specs.List.{All, list_any}
 use Rattle.std.proofs.lemmas.Bool.{cases_eq, false_from_ne_true}
 use Rattle.std.proofs.lemmas.Bool.Decides.{nat_tests}
 use Rattle.std.proofs.lemmas.List.Elements.{All-contains}
@@ -13,7 +13,7 @@ use Rattle.refute_check.specs.declared.found.Found.TheVariants.{Other}
 use Rattle.sat_plain.specs.Trails.{IsTrail, IsFull, IsQuiet}
 use Rattle.sat_plain.specs.Turns.{IsModel}
 use Rattle.sat_plain.proofs.PlaceLemmas.{found_other}
-use Rattle.sat_plain.proofs.DeriveLemmas.{one_sign}
+use Rattle.sat_plain.proofs.FinishLemmas.{one_sign}
 
 module _ (vars : ℕ) (values row : List Bool) (lits : List ℕ) (is : IsTrail vars values lits)
     (bits : (v : ℕ) → v < vars → bit row v ≡ bit values (2 * v)) where
@@ -31,7 +31,7 @@ module _ (vars : ℕ) (values row : List Bool) (lits : List ℕ) (is : IsTrail v
             let other : negated l ≡ 2 * variable l = grind (arith, nat_tests) in
             let gone : bit values (2 * variable l) ≡ false =
             false_from_ne_true (bit values (2 * variable l)) (λ e.
-                one_sign lits l is.apart (is.only l t) (is.only (negated l) (ap (bit values) other ∙ e))) in
+            one_sign lits l is.apart (is.only l t) (is.only (negated l) (ap (bit values) other ∙ e))) in
             ap (λ n. cond n (not (bit row (variable l))) (bit row (variable l))) minus
             ∙ ap not (bits (variable l) small ∙ gone)
       ]

@@ -1,15 +1,14 @@
 -- Places that come and go, and the clauses that force them.
-use Rattle.std.proofs.Common.{◌≡◌, ℕ, ◌+◌, ◌-◌, ◌<◌, ◌≤◌, ◌⊎◌, Bool, true, false, not, cond, List, [], ◌∷◌, ◌++◌, length, get_or, map, take, drop, Option, Some, None, slice_get, inl, inr, refl, sym, subst, ◌∙◌, ap, arith, append_assoc, append-nil}
+use Rattle.std.proofs.Common.{◌≡◌, ℕ, ◌<◌, ◌⊎◌, Bool, true, false, not, cond, List, [], ◌∷◌, ◌++◌, length, get_or, take, Some, slice_get, inl, inr, refl, sym, subst, ◌∙◌, ap, arith, append_assoc, append-nil}
 use Rattle.std.specs.List.{Contains}
 use Rattle.std.proofs.lemmas.Bool.{cases_lt}
-use Rattle.std.proofs.lemmas.List.{map-append, map_push, length-map, length-append, length-take, length_push, take-map, take-take, take-append-le, take_at, get_or_append_left, get_or_push, get_or-take, get_or-map}
-use Rattle.std.proofs.lemmas.Option.{get_or_from_slice_get, slice_get_within, slice_get-get_or, slice_get-map, same_Some}
-use Rattle.ja_base.specs.Literals.{bit, variable, negated}
-use Rattle.ja_base.proofs.LiteralLemmas.{negated_twice}
+use Rattle.std.proofs.lemmas.List.{map_push, length-map, length-append, length-take, length_push, take-map, take-take, take-append-le, take_at, get_or_append_left, get_or_push, get_or-take}
+use Rattle.std.proofs.lemmas.Option.{get_or_from_slice_get, slice_get_within, slice_get-get_or, slice_get-map}
+use Rattle.ja_base.specs.Literals.{bit, negated}
 use Rattle.refute_check.specs.Lines.{found_of, open_lits}
 use Rattle.refute_check.specs.declared.found.Found.TheVariants.{False, Forces, Other}
 use Rattle.sat_plain.specs.declared.place.Place.{Place}
-use Rattle.sat_plain.specs.Trails.{IsTrail, IsReason, IsForcedBy, AreForced, AreFalse, IsGrown, IsFull, lits_of}
+use Rattle.sat_plain.specs.Trails.{IsTrail, IsReason, IsForcedBy, AreForced, AreFalse, IsGrown, lits_of}
 use Rattle.sat_plain.proofs.Members.{Contains-here, Contains-there, Contains-cases, Contains-none}
 
 -- ---- elements by their places
@@ -116,8 +115,8 @@ pub found_false : (row : List Bool) (clause : List ℕ) → found_of row (open_l
     → (m : ℕ) → Contains clause m → bit row (negated m) ≡ true
 found_false row clause e m has =
     true_from (bit row (negated m)) (λ free.
-        let P : List ℕ → Type 0 = λ v. Contains v m in
-        Contains-none m (subst P (none_from_false row (open_lits row clause) e) (open_has row clause m has free)))
+    let P : List ℕ → Type 0 = λ v. Contains v m in
+    Contains-none m (subst P (none_from_false row (open_lits row clause) e) (open_has row clause m has free)))
 
 -- a clause that forces l
 pub record IsFoundForced (row : List Bool) (clause : List ℕ) (l : ℕ) : Type 0 where
@@ -138,11 +137,11 @@ found_forces row clause l e =
       free = here.1;
       others = λ m has other.
           true_from (bit row (negated m)) (λ free.
-              let Q : List ℕ → Type 0 = λ v. Contains v m in
-              elim (Contains-cases l m [] (subst Q r.0 (open_has row clause m has free))) [
-                | inl q ↦ other (sym q)
-                | inr k ↦ Contains-none m k
-              ]);
+          let Q : List ℕ → Type 0 = λ v. Contains v m in
+          elim (Contains-cases l m [] (subst Q r.0 (open_has row clause m has free))) [
+            | inl q ↦ other (sym q)
+            | inr k ↦ Contains-none m k
+          ]);
     }
 
 pub found_other : (row : List Bool) (clause : List ℕ) → found_of row (open_lits row clause) ≡ Other

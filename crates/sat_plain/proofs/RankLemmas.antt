@@ -1,8 +1,8 @@
 -- The rank of a trail rises.
-use Rattle.std.proofs.Common.{◌≡◌, ℕ, ◌+◌, ◌*◌, ◌^◌, ◌<◌, ◌≤◌, Bool, true, false, cond, List, [], ◌∷◌, ◌++◌, length, map, take, drop, zero, suc, Some, None, is_none, slice_get, refl, sym, subst, ◌∙◌, ap, arith, length-append}
+use Rattle.std.proofs.Common.{◌≡◌, ℕ, ◌+◌, ◌*◌, ◌^◌, ◌<◌, ◌≤◌, Bool, true, false, List, [], ◌∷◌, ◌++◌, length, take, drop, zero, suc, Some, None, is_none, slice_get, sym, subst, ◌∙◌, ap, arith, length-append}
 use Rattle.std.proofs.Math.Nat.{pow-suc}
-use Rattle.std.proofs.lemmas.List.{map-append, length-map, length-take, take-append-drop, take-map, append-nil}
-use Rattle.std.proofs.lemmas.Option.{slice_get_within, get_or_from_slice_get}
+use Rattle.std.proofs.lemmas.List.{map-append, length-map, length-take, append-nil}
+use Rattle.std.proofs.lemmas.Option.{slice_get_within}
 use Rattle.sat_plain.specs.declared.place.Place.{Place}
 use Rattle.sat_plain.specs.Trails.{IsGrown, kinds_of}
 use Rattle.sat_plain.specs.Turns.{IsFurther}

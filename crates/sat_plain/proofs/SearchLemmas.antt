@@ -1,5 +1,5 @@
 -- What a search keeps over a turn, and what it answers with.
-use Rattle.std.proofs.Common.{◌≡◌, ℕ, ◌+◌, ◌^◌, ◌<◌, ◌≤◌, Bool, true, List, [], ◌∷◌, ◌++◌, length, take, min, Some, refl, sym, subst, ◌∙◌, ap, arith, append_assoc, append-nil}
+use Rattle.std.proofs.Common.{◌≡◌, ℕ, ◌+◌, ◌^◌, Bool, List, [], ◌++◌, length, take, Some, refl, sym, subst, ◌∙◌, ap, arith, append_assoc, append-nil}
 use Rattle.std.specs.List.{All, Contains}
 use Rattle.std.proofs.lemmas.List.{take_at}
 use Rattle.std.proofs.lemmas.List.Elements.{All-take, All-same}
@@ -13,8 +13,7 @@ use Rattle.refute_check.specs.declared.lines.Line.{Line}
 use Rattle.refute_check.specs.declared.lines.Refuted.{Refuted}
 use Rattle.sat_plain.specs.declared.place.Place.{Place}
 use Rattle.sat_plain.specs.Trails.{lits_of, kinds_of}
-use Rattle.sat_plain.specs.Rank.{rank}
-use Rattle.sat_plain.specs.Ticks.{TicksAtMost, SpendsAtLeast, IsLater, IsGranted, IsRefused}
+use Rattle.sat_plain.specs.Ticks.{TicksAtMost, SpendsAtLeast, IsGranted, IsRefused}
 use Rattle.sat_plain.specs.Payments.{Spends}
 use Rattle.sat_plain.specs.Turns.{IsLog, IsExtended, IsSearch, IsNext, IsCore, IsModel, IsFurther}
 use Rattle.sat_plain.specs.Outcomes.{SpendsFor, IsSearching, IsRefutation}

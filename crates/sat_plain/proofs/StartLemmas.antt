@@ -1,13 +1,12 @@
 -- What a query starts with.
-use Rattle.std.proofs.Common.{◌≡◌, ℕ, ◌+◌, ◌<◌, ◌≤◌, Bool, true, List, [], ◌∷◌, ◌++◌, length, get_or, take, Option, Some, None, slice_get, inl, inr, refl, sym, subst, ◌∙◌, ap, arith}
+use Rattle.std.proofs.Common.{◌≡◌, ℕ, List, [], ◌∷◌, ◌++◌, get_or, take, Option, Some, None, inl, inr, refl, sym, subst, ◌∙◌, ap, arith}
 use Rattle.std.specs.List.{All, Contains, list_any}
 use Rattle.std.proofs.Math.Seq.{take-length}
 use Rattle.std.proofs.lemmas.Option.{none-some}
 use Rattle.std.proofs.lemmas.List.Elements.{All-push, All-cons, All-nil, Contains-push, Contains-push_cases, Contains-append_left, Contains-get_or}
 use Rattle.std.proofs.lemmas.List.Recursion.{or_at}
-use Rattle.ja_base.specs.Literals.{negated, value}
+use Rattle.ja_base.specs.Literals.{negated}
 use Rattle.ja_base.specs.Clauses.{IsBelow, is_part, has_literal}
-use Rattle.ja_base.proofs.LiteralLemmas.{negated_twice}
 use Rattle.ja_base.proofs.ClauseLemmas.{is_part_decides, has_literal_decides}
 use Rattle.refute_check.specs.Refuted.{has_both_signs}
 use Rattle.refute_check.specs.declared.lines.Refuted.{Refuted}
@@ -20,7 +19,7 @@ use Rattle.sat_plain.specs.Trails.{AreForced, lits_of}
 use Rattle.sat_plain.specs.Turns.{IsSearch}
 use Rattle.sat_plain.specs.Outcomes.{IsFound}
 use Rattle.sat_plain.specs.Starts.{AreAssumed, IsReadyFor, IsContradiction}
-use Rattle.sat_plain.proofs.Members.{Contains-here, Contains-there, Contains-none}
+use Rattle.sat_plain.proofs.Members.{Contains-here, Contains-there}
 use Rattle.sat_plain.proofs.PlaceLemmas.{slice_get_push, lits_push, lits_length}
 
 pub assumed_none : AreAssumed [] []

@@ -1,14 +1,8 @@
 -- One pass over all clauses.
-use Rattle.std.proofs.Common.{◌≡◌, ℕ, ◌+◌, ◌<◌, ◌≤◌, Bool, List, [], ◌∷◌, ◌++◌, length, get_or, refl, sym, subst, ◌∙◌, ap, arith}
-use Rattle.std.specs.List.{All}
-use Rattle.std.proofs.lemmas.List.{length_push, get_or_default}
-use Rattle.ja_base.specs.Clauses.{IsBelow}
+use Rattle.std.proofs.Common.{◌≡◌, ℕ, ◌<◌, ◌≤◌, List, [], length, get_or}
 use Rattle.refute_check.specs.Lines.{found_of, open_lits}
-use Rattle.refute_check.specs.declared.found.Found.{Found}
-use Rattle.refute_check.specs.declared.found.Found.TheVariants.{False, Forces, Other}
+use Rattle.refute_check.specs.declared.found.Found.TheVariants.{Other}
 use Rattle.sat_plain.specs.Trails.{Assigned, AreForced, IsGrown}
-use Rattle.sat_plain.specs.Steps.{IsExamined}
-use Rattle.sat_plain.proofs.PlaceLemmas.{grown_none, grown_chain}
 
 -- the clauses below `at` were examined, and are quiet where the trail has not grown
 pub record IsPassing (clauses : List (List ℕ)) (before now : Assigned) (at : ℕ) : Type 0 where

@@ -1,15 +1,15 @@
 -- A trail as literals come and go.
 use Rattle.std.proofs.Common.{◌≡◌, ℕ, ◌+◌, ◌*◌, ◌%◌, ◌<◌, ◌≤◌, ◌⊎◌, Bool, true, false, List, [], ◌∷◌, ◌++◌, length, get_or, set, map, take, eqb, Some, slice_get, zero, suc, inl, inr, refl, sym, subst, ◌∙◌, ap, arith}
-use Rattle.std.specs.List.{All, AllPairs, Contains, IsDistinct, list_any}
+use Rattle.std.specs.List.{AllPairs, Contains, list_any}
 use Rattle.std.proofs.lemmas.Bool.Decides.{nat_tests, eqb_tells, Decides-eqb, Decides-by_or}
-use Rattle.std.proofs.lemmas.List.{get_or-set_same, get_or-set_other, length-set, length-append, length-map, get_or-map, get_or_append_left, get_or_push, get_or_default, map-append}
+use Rattle.std.proofs.lemmas.List.{get_or-set_same, get_or-set_other, length-set, length-append, length-map, get_or-map, get_or_append_left, get_or_push}
 use Rattle.std.proofs.lemmas.List.Elements.{All-push, All-contains, All-map, Contains-push, Contains-push_cases, Contains-append_left, Contains-get_or, Decides-contains}
 use Rattle.std.proofs.lemmas.List.Quantifiers.{all_pairs_push}
 use Rattle.std.proofs.lemmas.Map.Made.{IsDistinct-from_AllPairs}
 use Rattle.std.proofs.lemmas.Map.Steps.{length-le_from_distinct_below}
 use Rattle.ja_base.specs.Literals.{bit, variable, negated}
 use Rattle.ja_base.specs.Clauses.{IsBelow}
-use Rattle.ja_base.proofs.LiteralLemmas.{literal_within, negated_within, variable_negated, negated_twice}
+use Rattle.ja_base.proofs.LiteralLemmas.{literal_within}
 use Rattle.sat_plain.specs.Trails.{IsTrail, AreApart, IsFull}
 use Rattle.std.proofs.lemmas.Bool.{cases_eq, false_from_ne_true}
 use Rattle.std.proofs.lemmas.Option.{get_or_from_slice_get, slice_get_within}
@@ -44,11 +44,11 @@ apart_is_short vars lits below apart =
     let width : length all ≡ length lits = length-map lits variable in
     let pairs : AllPairs (λ x y. x ≡ y → ⊥) all =
     λ i j d first last e.
-        let last' : j < length lits = omega arith in
-        let first' : i < length lits = omega arith in
-        let a = get_or-map variable lits i 0 d first' in
-        let b = get_or-map variable lits j 0 d last' in
-        apart i j 0 first last' (sym a ∙ e ∙ b) in
+    let last' : j < length lits = omega arith in
+    let first' : i < length lits = omega arith in
+    let a = get_or-map variable lits i 0 d first' in
+    let b = get_or-map variable lits j 0 d last' in
+    apart i j 0 first last' (sym a ∙ e ∙ b) in
     let few : length all ≤ vars =
     length-le_from_distinct_below all vars (IsDistinct-from_AllPairs {eq = eqb} Decides-eqb all pairs)
     (λ q e. All-contains (λ u. u < vars) all q (All-map (λ u. u < vars) variable lits below) (any_is_contained all q e)) in
@@ -100,13 +100,13 @@ popped vars l values lits h =
     let within : l < length values = let w = h.width in omega (arith, literal_within l vars small) in
     let below : IsBelow vars lits =
     λ k d less.
-        let P : ℕ → Type 0 = λ m. variable m < vars in
-        subst P (get_or_append_left lits (l ∷ []) d k less) (h.below k d (omega arith)) in
+    let P : ℕ → Type 0 = λ m. variable m < vars in
+    subst P (get_or_append_left lits (l ∷ []) d k less) (h.below k d (omega arith)) in
     let apart : AreApart lits =
     λ i j d first last e.
-        h.apart i j d first (omega arith)
-        (ap variable (get_or_append_left lits (l ∷ []) d i (omega arith)) ∙ e
-        ∙ sym (ap variable (get_or_append_left lits (l ∷ []) d j last))) in
+    h.apart i j d first (omega arith)
+    (ap variable (get_or_append_left lits (l ∷ []) d i (omega arith)) ∙ e
+    ∙ sym (ap variable (get_or_append_left lits (l ∷ []) d j last))) in
     record {
       width = length-set values l false ∙ h.width;
       below = below;
@@ -155,14 +155,14 @@ full_by_variables vars values h = record { other = λ l small f. go l small f (c
         let other : negated l ≡ 2 * variable l = grind (arith, nat_tests) in
         ap (bit values) other
         ∙ true_from (bit values (2 * variable l)) (λ e.
-            let t : bit values l ≡ true = ap (bit values) this ∙ h (variable l) small e in cc)
+        let t : bit values l ≡ true = ap (bit values) this ∙ h (variable l) small e in cc)
 
 -- once the places from p on are gone, no literal of the variable that stood at p is true
 pub unset_after : (vars p l m : ℕ) (values left : List Bool) (lits : List ℕ) → IsTrail vars values lits
     → slice_get lits p ≡ Some l → IsTrail vars left (take p lits) → variable m ≡ variable l → bit left m ≡ false
 unset_after vars p l m values left lits is there now e =
     false_from_ne_true (bit left m) (λ t.
-        let r = taken_at lits p m (now.only m t) in
-        let apart = is.apart in
-        apart r.0 p m r.1 (slice_get_within lits p l there)
-        (ap variable r.3 ∙ e ∙ sym (ap variable (get_or_from_slice_get lits p l m there))))
+    let r = taken_at lits p m (now.only m t) in
+    let apart = is.apart in
+    apart r.0 p m r.1 (slice_get_within lits p l there)
+    (ap variable r.3 ∙ e ∙ sym (ap variable (get_or_from_slice_get lits p l m there))))

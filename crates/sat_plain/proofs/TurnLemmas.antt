@@ -1,28 +1,28 @@
 -- What a turn of the search leaves.
-use Rattle.std.proofs.Common.{◌≡◌, ℕ, ◌+◌, ◌<◌, ◌≤◌, ◌||◌, Bool, true, false, List, [], ◌∷◌, ◌++◌, length, get_or, map, take, Option, Some, None, slice_get, inl, inr, refl, sym, subst, ◌∙◌, ap, arith, append_assoc, append-nil}
+use Rattle.std.proofs.Common.{◌≡◌, ℕ, ◌+◌, ◌<◌, ◌≤◌, true, List, [], ◌∷◌, ◌++◌, length, get_or, map, take, Option, Some, None, slice_get, inl, inr, refl, sym, subst, ◌∙◌, ap, arith, append_assoc, append-nil}
 use Rattle.std.specs.List.{All, Contains, list_any, list_all}
 use Rattle.std.proofs.lemmas.Bool.Decides.{eqb_tells, Decides-by_and}
 use Rattle.std.proofs.lemmas.Bool.{or_left}
-use Rattle.std.proofs.lemmas.List.{length-append, length-take, length-map, length_push, take-append-le, take-take, take_at, map_push, get_or-map, get_or_push, get_or_default}
+use Rattle.std.proofs.lemmas.List.{length-take, length-map, length_push, take-append-le, take-take, map_push, get_or-map, get_or_push}
 use Rattle.std.proofs.lemmas.List.Elements.{All-push, Contains-get_or}
 use Rattle.std.proofs.lemmas.List.Recursion.{or_at}
-use Rattle.std.proofs.lemmas.Option.{get_or_from_slice_get, slice_get_within, slice_get-get_or, same_Some, none-some}
-use Rattle.ja_base.specs.Literals.{negated, variable}
+use Rattle.std.proofs.lemmas.Option.{get_or_from_slice_get, slice_get_within, slice_get-get_or, same_Some}
+use Rattle.ja_base.specs.Literals.{negated}
 use Rattle.ja_base.specs.Clauses.{IsBelow, has_literal}
 use Rattle.ja_base.proofs.LiteralLemmas.{negated_twice}
 use Rattle.ja_base.proofs.ClauseLemmas.{has_literal_decides}
 use Rattle.refute_check.specs.Checked.{Numbering}
 use Rattle.refute_check.specs.Lines.{refusal}
 use Rattle.refute_check.specs.Laws.{AreAccepted, with_lines}
-use Rattle.refute_check.specs.Refuted.{is_covered, is_false_under, has_both_signs}
+use Rattle.refute_check.specs.Refuted.{is_false_under, has_both_signs}
 use Rattle.refute_check.specs.declared.lines.Line.{Line}
 use Rattle.refute_check.proofs.ListLemmas.{accepted_below}
 use Rattle.sat_plain.specs.declared.place.Place.{Place}
-use Rattle.sat_plain.specs.Trails.{AreForced, IsForcedBy, IsReason, IsGrown, lits_of, kinds_of}
-use Rattle.sat_plain.specs.Walks.{IsCut, IsLast, IsAbove}
-use Rattle.sat_plain.specs.Turns.{IsLog, IsExtended, IsSearch, IsNext, IsCore, IsFurther}
+use Rattle.sat_plain.specs.Trails.{AreForced, IsForcedBy, IsReason, lits_of}
+use Rattle.sat_plain.specs.Walks.{IsCut, IsLast, IsChoice}
+use Rattle.sat_plain.specs.Turns.{IsLog, IsSearch, IsNext, IsCore}
 use Rattle.sat_plain.proofs.Members.{taken_at, Contains-none}
-use Rattle.sat_plain.proofs.PlaceLemmas.{slice_get_left, lits_at, lits_take, forced_push, forced_take, forced_more}
+use Rattle.sat_plain.proofs.PlaceLemmas.{lits_at, lits_take, forced_push, forced_take, forced_more}
 use Rattle.sat_plain.proofs.WalkLemmas.{taken_has}
 
 -- ---- the log
@@ -33,9 +33,11 @@ accepted_push vars clauses [] line h e =
     (ap (λ v. refusal vars v line.clause line.hints) (sym (append-nil clauses)) ∙ e, tt)
 accepted_push vars clauses (l ∷ ls) line h e =
     let same : (clauses ++ l.clause ∷ []) ++ map (λ k. k.clause) ls ≡ clauses ++ (l.clause ∷ map (λ k. k.clause) ls) =
-    append_assoc clauses (l.clause ∷ []) (map (λ (k : Line). k.clause) ls) in
-    (h.0, accepted_push vars (clauses ++ l.clause ∷ []) ls line h.1
-    (ap (λ v. refusal vars v line.clause line.hints) same ∙ e))
+    append_assoc clauses (l.clause ∷ []) (map (λ (k : Line). k.clause) ls) in (
+      h.0,
+      accepted_push vars (clauses ++ l.clause ∷ []) ls line h.1
+          (ap (λ v. refusal vars v line.clause line.hints) same ∙ e),
+    )
 
 pub log_push : (vars : ℕ) (clauses all : List (List ℕ)) (lines : List Line) (line : Line)
     → refusal vars all line.clause line.hints ≡ None → IsLog vars clauses lines all
@@ -131,7 +133,7 @@ next_flip vars assumed q number places places' lines lines' clauses clauses' lin
 
 -- each literal of the clause is false by the lowest places
 low_literals : (places : List Place) (assumed : ℕ) (clause : List ℕ) (last : Option ℕ) → IsLast places 0 clause last
-    → IsAbove last assumed None → (m : ℕ) → Contains clause m → Contains (take assumed (lits_of places)) (negated m)
+    → IsChoice last assumed None → (m : ℕ) → Contains clause m → Contains (take assumed (lits_of places)) (negated m)
 low_literals places assumed clause None h low m has =
     let P : List ℕ → Type 0 = λ v. Contains v m in absurd (Contains-none m (subst P h has))
 low_literals places assumed clause (Some q) h low m has =
@@ -153,15 +155,15 @@ negations_have clause m has =
     (has.0, omega (arith, has.1, length-map clause negated), get_or-map negated clause has.0 m (negated m) has.1 ∙ ap negated has.2)
 
 pub core_of : (places : List Place) (assumed number : ℕ) (clause core : List ℕ) (list : List (List ℕ)) (last : Option ℕ)
-    → IsLast places 0 clause last → IsAbove last assumed None → core ≡ map negated clause
+    → IsLast places 0 clause last → IsChoice last assumed None → core ≡ map negated clause
     → slice_get list number ≡ Some clause → IsCore (take assumed (lits_of places)) list core
 core_of places assumed number clause core list last h low is there = record {
   part = let P : List ℕ → Type 0 = All (Contains (take assumed (lits_of places))) in
       subst P (sym is) (λ k d less.
-          let within : k < length clause = omega (arith, length-map clause negated) in
-          let Q : ℕ → Type 0 = Contains (take assumed (lits_of places)) in
-          subst Q (sym (get_or-map negated clause k d d within))
-          (low_literals places assumed clause last h low (get_or clause k d) (Contains-get_or clause k d within)));
+      let within : k < length clause = omega (arith, length-map clause negated) in
+      let Q : ℕ → Type 0 = Contains (take assumed (lits_of places)) in
+      subst Q (sym (get_or-map negated clause k d d within))
+      (low_literals places assumed clause last h low (get_or clause k d) (Contains-get_or clause k d within)));
   covered = or_left (list_any (is_false_under core) list) (has_both_signs core)
       (or_at (list_any (is_false_under core)) (is_false_under core) refl (λ _ _. refl) list number []
       (slice_get_within list number clause there)
@@ -173,5 +175,5 @@ core_of places assumed number clause core list last h low is there = record {
         (Decides-by_and (λ l. has_literal core (negated l)) (λ l. Contains core (negated l))
         (list_all (λ l. has_literal core (negated l))) (λ l. has_literal_decides core (negated l)) refl (λ _ _. refl) clause).1
         (λ k d less.
-            let P : List ℕ → Type 0 = λ v. Contains v (negated (get_or clause k d)) in
-            subst P (sym is) (negations_have clause (get_or clause k d) (Contains-get_or clause k d less)))
+        let P : List ℕ → Type 0 = λ v. Contains v (negated (get_or clause k d)) in
+        subst P (sym is) (negations_have clause (get_or clause k d) (Contains-get_or clause k d less)))

@@ -1,17 +1,17 @@
 -- The highest decision that a walk kept.
-use Rattle.std.proofs.Common.{◌≡◌, ℕ, ◌+◌, ◌*◌, ◌<◌, ◌≤◌, Bool, List, [], ◌∷◌, ◌++◌, length, get_or, take, Option, Some, None, unwrap_or, slice_get, inl, inr, refl, sym, subst, ◌∙◌, ap, arith}
+use Rattle.std.proofs.Common.{◌≡◌, ℕ, ◌+◌, ◌*◌, ◌<◌, Bool, List, [], ◌∷◌, ◌++◌, length, get_or, take, Option, Some, None, unwrap_or, slice_get, inl, inr, refl, sym, subst, ◌∙◌, ap, arith}
 use Rattle.std.specs.List.{All, Contains}
 use Rattle.std.proofs.lemmas.List.{length-take, get_or-take}
-use Rattle.std.proofs.lemmas.Option.{get_or_from_slice_get, slice_get_within, same_Some, slice_get-get_or}
+use Rattle.std.proofs.lemmas.Option.{get_or_from_slice_get, slice_get_within}
 use Rattle.std.proofs.lemmas.List.Elements.{Contains-push, Contains-push_cases, Contains-append_left}
 use Rattle.ja_base.specs.Literals.{negated, variable}
 use Rattle.ja_base.specs.Clauses.{IsSetOf, IsBelow}
 use Rattle.ja_base.proofs.LiteralLemmas.{negated_twice, literal_within, negated_within}
 use Rattle.refute_check.specs.Spans.{Spans}
 use Rattle.sat_plain.specs.declared.place.Place.{Place}
-use Rattle.sat_plain.specs.Trails.{IsTrail, IsReason, lits_of}
+use Rattle.sat_plain.specs.Trails.{IsTrail, lits_of}
 use Rattle.sat_plain.specs.Derive.{IsWalked}
-use Rattle.sat_plain.specs.Walks.{IsCut, IsLast}
+use Rattle.sat_plain.specs.Walks.{IsLast}
 use Rattle.sat_plain.proofs.Members.{Contains-here, Contains-cases, Contains-none}
 use Rattle.sat_plain.proofs.PlaceLemmas.{lits_at}
 
@@ -28,39 +28,43 @@ taken_has xs p q l e low =
 pub last_kept : (places : List Place) (p : ℕ) (place : Place) (lits : List ℕ) (o : Option ℕ)
     → slice_get places p ≡ Some place → place.reason ≡ None → IsLast places (p + 1) lits o
     → IsLast places p (lits ++ negated place.lit ∷ []) (Some (unwrap_or o p))
-last_kept places p place lits None e decided h =
-    (omega arith, record {
-      place = place;
-      is = e;
-      decided = decided;
-      reason = record {
-        has = Contains-push lits (negated place.lit);
-        others = λ m has other.
-            let P : List ℕ → Type 0 = λ v. Contains (v ++ negated place.lit ∷ []) m in
-            absurd (elim (Contains-cases (negated place.lit) m [] (subst P h has)) [
-              | inl q ↦ other (sym q)
-              | inr k ↦ Contains-none m k
-            ]);
-      };
-    })
+last_kept places p place lits None e decided h = (
+  omega arith,
+  record {
+    place = place;
+    is = e;
+    decided = decided;
+    reason = record {
+      has = Contains-push lits (negated place.lit);
+      others = λ m has other.
+          let P : List ℕ → Type 0 = λ v. Contains (v ++ negated place.lit ∷ []) m in
+          absurd (elim (Contains-cases (negated place.lit) m [] (subst P h has)) [
+            | inl q ↦ other (sym q)
+            | inr k ↦ Contains-none m k
+          ]);
+    };
+  },
+)
 last_kept places p place lits (Some q) e decided h =
-    let cut = h.1 in
-    (omega (arith, h.0), record {
-      place = cut.place;
-      is = cut.is;
-      decided = cut.decided;
-      reason = record {
-        has = Contains-append_left lits (negated place.lit ∷ []) (negated cut.place.lit) cut.reason.has;
-        others = λ m has other.
-            elim (Contains-push_cases lits (negated place.lit) m has) [
-              | inl k ↦ cut.reason.others m k other
-              | inr f ↦
-                  let same : place.lit ≡ negated m = sym (negated_twice place.lit) ∙ ap negated f in
-                  let P : ℕ → Type 0 = Contains (take q (lits_of places)) in
-                  subst P same (taken_has (lits_of places) p q place.lit (lits_at places p place e) (omega (arith, h.0)))
-            ];
-      };
-    })
+    let cut = h.1 in (
+      omega (arith, h.0),
+      record {
+        place = cut.place;
+        is = cut.is;
+        decided = cut.decided;
+        reason = record {
+          has = Contains-append_left lits (negated place.lit ∷ []) (negated cut.place.lit) cut.reason.has;
+          others = λ m has other.
+              elim (Contains-push_cases lits (negated place.lit) m has) [
+                | inl k ↦ cut.reason.others m k other
+                | inr f ↦
+                    let same : place.lit ≡ negated m = sym (negated_twice place.lit) ∙ ap negated f in
+                    let P : ℕ → Type 0 = Contains (take q (lits_of places)) in
+                    subst P same (taken_has (lits_of places) p q place.lit (lits_at places p place e) (omega (arith, h.0)))
+              ];
+        };
+      },
+    )
 
 no_members : (xs : List ℕ) → ((m : ℕ) → Contains xs m → ⊥) → xs ≡ []
 no_members [] h = refl
@@ -71,18 +75,20 @@ pub last_set : (places : List Place) (p : ℕ) (lits clause : List ℕ) (o : Opt
     → IsLast places p lits o → IsLast places p clause o
 last_set places p lits clause None set_of h =
     no_members clause (λ m has.
-        let P : List ℕ → Type 0 = λ v. Contains v m in Contains-none m (subst P h ((set_of.members m).0 has)))
+    let P : List ℕ → Type 0 = λ v. Contains v m in Contains-none m (subst P h ((set_of.members m).0 has)))
 last_set places p lits clause (Some q) set_of h =
-    let cut = h.1 in
-    (h.0, record {
-      place = cut.place;
-      is = cut.is;
-      decided = cut.decided;
-      reason = record {
-        has = (set_of.members (negated cut.place.lit)).1 cut.reason.has;
-        others = λ m has other. cut.reason.others m ((set_of.members m).0 has) other;
-      };
-    })
+    let cut = h.1 in (
+      h.0,
+      record {
+        place = cut.place;
+        is = cut.is;
+        decided = cut.decided;
+        reason = record {
+          has = (set_of.members (negated cut.place.lit)).1 cut.reason.has;
+          others = λ m has other. cut.reason.others m ((set_of.members m).0 has) other;
+        };
+      },
+    )
 
 pub walked_of : (vars : ℕ) (values : List Bool) (lits : List ℕ) → IsTrail vars values lits → IsWalked vars lits
 walked_of vars values lits is = record { below = is.below; apart = is.apart }

@@ -38,3 +38,11 @@ OnStopped (Unsat refuted) P = ⊤
 OnStopped Spent P = ⊤
 OnStopped Stopped P = P
 OnStopped Memory P = ⊤
+
+-- a fact of what is refuted, where the answer is `Unsat`
+abbrev pub OnUnsat : SatAnswer → (Refuted → Type 0) → Type 0
+OnUnsat (Sat row) P = ⊤
+OnUnsat (Unsat refuted) P = P refuted
+OnUnsat Spent P = ⊤
+OnUnsat Stopped P = ⊤
+OnUnsat Memory P = ⊤

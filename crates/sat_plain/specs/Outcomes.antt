@@ -6,6 +6,7 @@ use Rattle.refute_check.specs.Laws.{AreAccepted, with_lines}
 use Rattle.refute_check.specs.Refuted.{is_covered}
 use Rattle.refute_check.specs.declared.lines.Line.{Line}
 use Rattle.refute_check.specs.declared.lines.Refuted.{Refuted}
+use Rattle.sat_plain.specs.Answer.{OnUnsat}
 use Rattle.sat_plain.specs.declared.answer.SatAnswer.{SatAnswer}
 use Rattle.sat_plain.specs.declared.answer.SatAnswer.TheVariants as answer
 use Rattle.sat_plain.specs.declared.place.Place.{Place}
@@ -30,6 +31,7 @@ IsTurned vars assumed before after clauses Memory = ⊤
 abbrev pub SpendsFor : Meter → Meter → ℕ → ℕ → Type 0
 SpendsFor before now n m = (k : ℕ) × (m ≡ n + k) × Spends before now k
 
+-- a unit for each line, or the tick that was refused; want of memory may come behind a unit for which there is no line
 abbrev pub IsTurnTicked : Meter → Meter → ℕ → ℕ → Outcome → Type 0
 IsTurnTicked before now n m GoesOn = SpendsFor before now n m
 IsTurnTicked before now n m (Meets row) = SpendsFor before now n m
@@ -60,14 +62,6 @@ IsFound vars clauses lits (answer.Unsat refuted) = IsRefutation vars clauses lit
 IsFound vars clauses lits answer.Spent = ⊤
 IsFound vars clauses lits answer.Stopped = ⊤
 IsFound vars clauses lits answer.Memory = ⊤
-
--- a fact of what is refuted, where that is the answer
-abbrev pub OnUnsat : SatAnswer → (Refuted → Type 0) → Type 0
-OnUnsat (answer.Sat row) P = ⊤
-OnUnsat (answer.Unsat refuted) P = P refuted
-OnUnsat answer.Spent P = ⊤
-OnUnsat answer.Stopped P = ⊤
-OnUnsat answer.Memory P = ⊤
 
 -- with one unit spent before the search, it is ticked as a query is, and by one unit more than it has lines
 abbrev pub IsFoundTicked : Meter → Meter → SatAnswer → Type 0

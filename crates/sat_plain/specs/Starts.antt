@@ -1,8 +1,7 @@
 -- How a query starts.
-use Rattle.std.specs.Prelude.{◌≡◌, ℕ, ◌^◌, ◌≤◌, true, List, [], length, slice_get, Option, Some, None, All, Contains, ⊤}
+use Rattle.std.specs.Prelude.{◌≡◌, ℕ, true, List, [], length, slice_get, Option, Some, None, Contains, ⊤}
 use Rattle.ja_base.specs.Literals.{negated}
-use Rattle.ja_base.specs.Clauses.{IsBelow, is_part}
-use Rattle.refute_check.specs.Checked.{Numbering}
+use Rattle.ja_base.specs.Clauses.{is_part}
 use Rattle.refute_check.specs.Refuted.{has_both_signs}
 use Rattle.refute_check.specs.declared.lines.Refuted.{Refuted}
 use Rattle.sat_plain.specs.declared.place.Place.{Place}
@@ -35,6 +34,7 @@ pub record IsContradiction (under : List ℕ) (refuted : Refuted) : Type 0 where
   pub both : has_both_signs refuted.core ≡ true
   pub lines : refuted.lines ≡ []
 
+-- the search may begin, or the literals of `under` contradict each other
 abbrev pub IsOpened : ℕ → List ℕ → Opening → Type 0
 IsOpened vars under (Ready query) = IsReadyFor vars under query
 IsOpened vars under (Contradicts refuted) = IsContradiction under refuted

@@ -1,5 +1,5 @@
 -- What a query leaves of the meter.
-use Rattle.std.specs.Prelude.{◌≡◌, ℕ, ◌+◌, ◌≤◌, List, length, Some, min}
+use Rattle.std.specs.Prelude.{◌≡◌, ℕ, ◌+◌, ◌≤◌, length, Some, min}
 use Rattle.ja_base.specs.Meter.{next_count}
 use Rattle.ja_base.specs.declared.meter.Meter.{Meter}
 use Rattle.sat_plain.specs.declared.answer.SatAnswer.{SatAnswer}

@@ -3,7 +3,6 @@ use Rattle.std.specs.Prelude.{◌≡◌, ℕ, ◌+◌, ◌<◌, ◌≤◌, ◌++
 use Rattle.ja_base.specs.Literals.{value, AllSatisfiedBy}
 use Rattle.ja_base.specs.Clauses.{IsBelow}
 use Rattle.ja_base.specs.declared.memory.Memory.{Memory}
-use Rattle.ja_base.specs.declared.meter.Meter.{Meter}
 use Rattle.refute_check.specs.Checked.{Numbering}
 use Rattle.refute_check.specs.Laws.{AreAccepted, with_lines}
 use Rattle.refute_check.specs.Refuted.{is_covered}

@@ -1,5 +1,5 @@
 -- A walk that keeps decisions and resolves the other places.
-use Rattle.std.specs.Prelude.{◌≡◌, ℕ, ◌+◌, ◌≤◌, ◌<◌, List, [], take, length, slice_get, Option, Some, None, Contains}
+use Rattle.std.specs.Prelude.{◌≡◌, ℕ, ◌≤◌, ◌<◌, List, [], take, slice_get, Option, Some, None}
 use Rattle.ja_base.specs.Literals.{negated}
 use Rattle.sat_plain.specs.declared.place.Place.{Place}
 use Rattle.sat_plain.specs.Trails.{IsReason, lits_of}
@@ -23,6 +23,6 @@ pub record IsWalking (vars : ℕ) (clauses : List (List ℕ)) (places : List Pla
   pub highest : IsLast places p d.lits last
 
 -- whether the highest decision that was kept stands above the lowest places, `assumed` many
-abbrev pub IsAbove : Option ℕ → ℕ → Option ℕ → Type 0
-IsAbove last assumed None = (q : ℕ) → last ≡ Some q → q < assumed
-IsAbove last assumed (Some q) = (last ≡ Some q) × (assumed ≤ q)
+abbrev pub IsChoice : Option ℕ → ℕ → Option ℕ → Type 0
+IsChoice last assumed None = (q : ℕ) → last ≡ Some q → q < assumed
+IsChoice last assumed (Some q) = (last ≡ Some q) × (assumed ≤ q)

@@ -3,10 +3,9 @@
 ghost use Rattle.std.specs.Prelude.{◌≡◌, ◌+◌, ◌≤◌, ◌^◌, All, length, option_copied, IsTrue};
 ghost use Rattle.ja_base.specs.Clauses.{IsBelow};
 ghost use Rattle.ja_outside.specs.Faults.{Rose};
-ghost use Rattle.sat_plain.specs.Answer.{clauses_of, ExtraIsBelow, IsAnswer, OnStopped};
+ghost use Rattle.sat_plain.specs.Answer.{clauses_of, ExtraIsBelow, IsAnswer, OnStopped, OnUnsat};
 ghost use Rattle.sat_plain.specs.Ticks.{TicksAtMost, SpendsAtLeast, IsLater, IsTicked};
 ghost use Rattle.sat_plain.specs.Turns.{IsExtended};
-ghost use Rattle.sat_plain.specs.Outcomes.{OnUnsat};
 
 use crate::answer::SatAnswer;
 use crate::pay::{Payment, pay};

@@ -1,6 +1,6 @@
 //! How a line is derived from a conflict.
 
-ghost use Rattle.std.specs.Prelude.{◌≡◌, ◌*◌, ◌<◌, ◌≤◌, ◌++◌, [], ◌∷◌, length, not, true, IfOk, OnOk};
+ghost use Rattle.std.specs.Prelude.{◌≡◌, ◌*◌, ◌<◌, ◌≤◌, ◌++◌, [], ◌∷◌, length, not, true, IfOk, OnOk, OnErr};
 ghost use Rattle.std.specs.Bool.{OnTrue};
 ghost use Rattle.ja_base.specs.Literals.{bit, negated};
 ghost use Rattle.ja_base.specs.Clauses.{IsBelow, IsSetOf};
@@ -12,8 +12,9 @@ use refute_check::{Hints, Line, assume};
 use std::alloc::Global;
 use std::marker::Model;
 
-/// A walk down a trail from a conflict. Each literal that is marked is to be resolved by the clause that forces it, or
-/// kept: the line's clause is then the negation of those that were kept, and any choice of them gives an accepted line.
+/// A walk down a trail from a conflict, place by place. A literal that is not marked is skipped; one that is marked is
+/// resolved by the clause that forces it, or kept. The line's clause is the negation of those that were kept, and any choice
+/// of them gives an accepted line.
 #[derive(Debug, Drop)]
 pub struct Derivation {
     marks: Vec<bool>,
@@ -34,7 +35,12 @@ impl Model for Derivation {
 
 impl Derivation {
     /// The walk begins at the end of the trail, with the number of a clause that is false there.
-    pub fn begin(alloc: Global, vars: u32, number: u32, clause: &Clause) -> Result<Derivation, Memory>
+    pub fn begin(
+        alloc: Global,
+        vars: u32,
+        number: u32,
+        clause: &Clause,
+    ) -> Result<Derivation, Memory>
         requires { IsBelow vars clause.now }
         ensures width { IfOk result (λ walk. length walk.marks ≡ 2 * vars) }
         ensures lits { IfOk result (λ walk. walk.lits ≡ []) }
@@ -66,6 +72,7 @@ impl Derivation {
         requires clause { Spans (length self.old.marks) clause.now }
         ensures width { length self.new.marks ≡ length self.old.marks }
         ensures lits { self.new.lits ≡ self.old.lits }
+        ensures err { OnErr result (self.new ≡ self.old) }
         ensures resolves { OnOk result (Resolves self.old lit number clause.now self.new) }
     {
         if self.hints.len() >= u32::MAX as usize {
@@ -83,6 +90,7 @@ impl Derivation {
         requires { bit self.old.marks lit ≡ true }
         ensures width { length self.new.marks ≡ length self.old.marks }
         ensures lits { OnOk result (self.new.lits ≡ self.old.lits ++ negated lit ∷ []) }
+        ensures err { OnErr result (self.new ≡ self.old) }
         ensures keeps { OnOk result (Keeps self.old lit self.new) }
     {
         self.lits.push(lit.not())?;

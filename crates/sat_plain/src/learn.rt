@@ -4,7 +4,7 @@ ghost use Rattle.std.specs.Prelude.{◌≡◌, ℕ, ◌+◌, ◌<◌, ◌≤◌,
 ghost use Rattle.ja_base.specs.Literals.{negated};
 ghost use Rattle.sat_plain.specs.Trails.{AreForced, IsGrown, lits_of};
 ghost use Rattle.sat_plain.specs.Steps.{IsConflict};
-ghost use Rattle.sat_plain.specs.Walks.{IsCut, IsAbove};
+ghost use Rattle.sat_plain.specs.Walks.{IsCut, IsChoice};
 ghost use Rattle.sat_plain.specs.Turns.{IsSearch, IsNext, IsFurther, IsLearnt};
 
 use crate::query::Query;
@@ -41,8 +41,8 @@ fn negations(alloc: Global, lits: &[Lit]) -> Result<Lits, Memory>
 }
 
 /// The place of the last decision, if it is none of those that are assumed.
-fn above(last: Option<u32>, assumed: u32) -> Option<u32>
-    ensures { IsAbove last assumed result }
+fn choice(last: Option<u32>, assumed: u32) -> Option<u32>
+    ensures { IsChoice last assumed result }
 {
     match last {
         Some(at) if at >= assumed => Some(at),
@@ -83,7 +83,7 @@ pub(crate) fn learn(
     let Learnt { line, last } = derive(alloc, &query.trail, clauses, conflict)?;
     let number = clauses.len();
     log(alloc, clauses, &mut query.lines, line)?;
-    match above(last, query.assumed) {
+    match choice(last, query.assumed) {
         Some(at) => {
             flip(&mut query.trail, at, number);
             Ok(None)

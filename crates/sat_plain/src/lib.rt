@@ -7,6 +7,10 @@ mod ask;
 mod derivation;
 mod laws;
 mod learn;
+#[cfg(test)]
+mod masks;
+#[cfg(test)]
+mod no_rows;
 mod pay;
 mod place;
 mod plain;
@@ -15,6 +19,8 @@ mod query;
 mod sat;
 mod search;
 mod start;
+#[cfg(test)]
+mod tests;
 mod trail;
 mod turn;
 mod walk;

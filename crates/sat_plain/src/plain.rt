@@ -3,9 +3,8 @@
 ghost use Rattle.std.specs.Prelude.{◌≡◌, ◌+◌, ◌≤◌, ◌^◌, [], ◌∷◌, ◌++◌, length, option_copied, IfOk, OnOk, OnErr, IsTrue};
 ghost use Rattle.ja_base.specs.Clauses.{IsBelow};
 ghost use Rattle.ja_outside.specs.Faults.{Rose};
-ghost use Rattle.sat_plain.specs.Answer.{clauses_of, ExtraIsBelow, IsAnswer, OnStopped};
+ghost use Rattle.sat_plain.specs.Answer.{clauses_of, ExtraIsBelow, IsAnswer, OnStopped, OnUnsat};
 ghost use Rattle.sat_plain.specs.Ticks.{TicksAtMost, SpendsAtLeast, IsLater, IsTicked};
-ghost use Rattle.sat_plain.specs.Outcomes.{OnUnsat};
 
 use crate::answer::SatAnswer;
 use crate::ask::ask;
@@ -104,7 +103,15 @@ impl Sat for PlainSat {
         ensures flag_kept { F.may_rise flag.new ≡ F.may_rise flag.old }
         ensures flag_later { F.raised flag.old ≤ F.raised flag.new }
     {
-        let answer = ask(alloc, self.vars, &mut self.clauses, under, extra, meter, flag);
+        let answer = ask(
+            alloc,
+            self.vars,
+            &mut self.clauses,
+            under,
+            extra,
+            meter,
+            flag,
+        );
         self.clauses.keep();
         answer
     }

@@ -43,7 +43,8 @@ impl Walk {
         }
         match place.reason {
             Some(number) => {
-                self.derivation.resolve(lit, number, clauses.clause(number))?;
+                self.derivation
+                    .resolve(lit, number, clauses.clause(number))?;
                 Ok(())
             }
             None => {

@@ -1,7 +1,6 @@
 use Rattle.std.proofs.Common.{◌∙◌, arith}
 use Rattle.ja_base.specs.Literals.{variable}
 use Rattle.aig_model.specs.declared.netlist.Latch.{Latch}
-use Rattle.aig_model.specs.Netlist.{gate_var}
 use Rattle.ja_project.proofs.BelowLemmas.{new_is_below}
 use Rattle.ja_project.proofs.DefinedLemmas.{Marks-more, Marks-all}
 use Rattle.ja_project.proofs.defined.mark_latches.Goals as goal

@@ -1,7 +1,6 @@
 use Rattle.std.proofs.Common.{map, take}
 use Rattle.ja_base.specs.Literals.{variable}
 use Rattle.aig_model.specs.declared.netlist.Latch.{Latch}
-use Rattle.aig_model.specs.Netlist.{gate_var}
 use Rattle.ja_project.specs.Coding.{Marks}
 use Rattle.ja_project.proofs.defined.mark_latches.Given as goal
 

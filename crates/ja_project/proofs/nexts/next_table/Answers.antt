@@ -1,4 +1,4 @@
-use Rattle.std.proofs.Common.{List, ℕ, ◌+◌, set, length, ◌<◌, sym, ap, subst, ◌∙◌, arith}
+use Rattle.std.proofs.Common.{ℕ, ◌+◌, set, length, ◌<◌, sym, subst, ◌∙◌, arith}
 use Rattle.ja_base.specs.Literals.{variable}
 use Rattle.ja_project.proofs.BelowLemmas.{new_is_below}
 use Rattle.ja_project.proofs.NextLemmas.{HasFirst, HasFirst-more, HasFirst-all}

@@ -1,5 +1,4 @@
-use Rattle.std.proofs.Common.{◌≡◌, ℕ, true, get_or}
-use Rattle.std.specs.List.{Contains}
+use Rattle.std.proofs.Common.{◌≡◌, true, get_or}
 use Rattle.std.proofs.lemmas.List.Elements.{All-contains}
 use Rattle.ja_base.specs.Literals.{value}
 use Rattle.ja_base.proofs.ClauseLemmas.{is_part_decides}

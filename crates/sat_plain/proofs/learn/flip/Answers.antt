@@ -1,7 +1,7 @@
-use Rattle.std.proofs.Common.{◌≡◌, ℕ, ◌<◌, Bool, false, List, [], ◌∷◌, ◌++◌, take, Some, slice_get, sym, subst, ◌∙◌, ap, arith}
+use Rattle.std.proofs.Common.{◌≡◌, ℕ, ◌<◌, Bool, List, [], ◌∷◌, ◌++◌, take, Some, sym, subst, ◌∙◌, ap, arith}
 use Rattle.std.proofs.lemmas.Option.{same_Some}
-use Rattle.ja_base.specs.Literals.{bit, variable, negated}
-use Rattle.ja_base.proofs.LiteralLemmas.{variable_negated, negated_twice}
+use Rattle.ja_base.specs.Literals.{variable, negated}
+use Rattle.ja_base.proofs.LiteralLemmas.{variable_negated}
 use Rattle.sat_plain.specs.declared.place.Place.{Place}
 use Rattle.sat_plain.specs.Trails.{IsTrail, lits_of}
 use Rattle.sat_plain.proofs.TrailLemmas.{unset_after}

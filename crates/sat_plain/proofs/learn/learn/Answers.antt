@@ -1,11 +1,9 @@
-use Rattle.std.proofs.Common.{◌≡◌, ℕ, ◌+◌, List, [], ◌∷◌, ◌++◌, map, take, length, Option, Some, None, slice_get, is_none, refl, sym, subst, ◌∙◌, ap, arith}
+use Rattle.std.proofs.Common.{◌≡◌, ℕ, List, map, length, Option, Some, slice_get, refl, sym, subst, ◌∙◌, ap}
 use Rattle.std.proofs.lemmas.List.{length_push}
 use Rattle.std.proofs.lemmas.Option.{same_Some}
 use Rattle.ja_base.specs.Literals.{negated}
-use Rattle.refute_check.specs.Checked.{Numbering}
 use Rattle.refute_check.specs.declared.lines.Line.{Line}
 use Rattle.sat_plain.specs.declared.place.Place.{Place}
-use Rattle.sat_plain.specs.Trails.{lits_of}
 use Rattle.sat_plain.specs.Turns.{IsFurther}
 use Rattle.sat_plain.specs.Walks.{IsLast}
 use Rattle.sat_plain.proofs.PlaceLemmas.{lits_at}
@@ -59,12 +57,11 @@ returns-in_ok-core-in-None-clause-answer c =
     let P : List ℕ → Type 0 = λ v. slice_get c.log.new.clauses.list c.len-number.result ≡ Some v in
     let clause : List ℕ = c.clause.result.now in
     let Q : List ℕ → Type 0 = λ v. IsLast c.args.query.now.trail.places 0 v c.in_ok-line.field-0.last in
-    let same : line.clause ≡ clause = same_Some line.clause clause (sym here ∙ c.clause.ensures) in
-    (
+    let same : line.clause ≡ clause = same_Some line.clause clause (sym here ∙ c.clause.ensures) in (
       ap length g.log ∙ length_push lines line,
       core_of c.args.query.now.trail.places c.args.query.now.assumed c.len-number.result clause c.in_ok-core-in-None.core
-      c.log.new.clauses.list c.in_ok-line.field-0.last (subst Q same c.in_ok-line.ensures.last) c.in-None.ensures
-      (c.in_ok-core-in-None.ensures ∙ ap (map negated) c.lits.ensures.value) c.clause.ensures,
+          c.log.new.clauses.list c.in_ok-line.field-0.last (subst Q same c.in_ok-line.ensures.last) c.in-None.ensures
+          (c.in_ok-core-in-None.ensures ∙ ap (map negated) c.lits.ensures.value) c.clause.ensures,
     )
 
 pub returns-in-Some-clause-next : goal.returns-in-Some-clause-next
@@ -98,9 +95,8 @@ returns-in-Some-clause-answer c =
     let last : IsLast places 0 line.clause (Some q) = subst P c.in-Some.ensures.0 c.in_ok-line.ensures.last in
     let cut = last.1 in
     let new : Place = record { lit = negated cut.place.lit; reason = Some c.len-number.result } in
-    let Q : List Place → Type 0 = IsFurther vars places in
-    (
+    let Q : List Place → Type 0 = IsFurther vars places in (
       ap length c.in_ok-log.ensures.ok.1 ∙ length_push c.args.query.now.lines line,
       subst Q (sym (c.flip.ensures.places cut.place.lit (lits_at places q cut.place cut.is)))
-      (further_by_flip vars q places cut.place new cut.is cut.decided refl c.flip.ensures.short),
+          (further_by_flip vars q places cut.place new cut.is cut.decided refl c.flip.ensures.short),
     )

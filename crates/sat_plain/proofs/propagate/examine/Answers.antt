@@ -1,11 +1,9 @@
-use Rattle.std.proofs.Common.{◌≡◌, ℕ, Bool, false, List, [], ◌∷◌, ◌++◌, get_or, Some, slice_get, refl, sym, subst, ◌∙◌, ap}
+use Rattle.std.proofs.Common.{◌≡◌, ℕ, Bool, List, [], get_or, Some, slice_get, refl, sym, subst, ◌∙◌, ap}
 use Rattle.std.proofs.lemmas.Option.{get_or_from_slice_get, same_Some}
-use Rattle.ja_base.specs.Literals.{bit, negated}
 use Rattle.refute_check.specs.Lines.{found_of, open_lits}
 use Rattle.refute_check.specs.declared.found.Found.{Found}
-use Rattle.refute_check.specs.declared.found.Found.TheVariants.{False, Forces, Other}
 use Rattle.sat_plain.specs.declared.place.Place.{Place}
-use Rattle.sat_plain.specs.Trails.{IsTrail, IsForcedBy, AreForced, lits_of}
+use Rattle.sat_plain.specs.Trails.{IsForcedBy, AreForced, lits_of}
 use Rattle.sat_plain.proofs.PlaceLemmas.{IsFoundForced, found_forces, forced_push, reason_of, all_false}
 use Rattle.sat_plain.proofs.propagate.examine.Goals as goal
 
@@ -72,9 +70,11 @@ returns-in-False-clause-step c =
     let e = scanned values c.values.result.now list c.args.at c.clause.result.now c.lits.result.now c.scan.result
     c.scan.ensures.value c.values.ensures.value c.lits.ensures.value c.clause.ensures in
     let here : slice_get list c.args.at ≡ Some clause =
-    c.clause.ensures ∙ ap Some (sym (get_or_from_slice_get list c.args.at c.clause.result.now [] c.clause.ensures)) in
-    (refl, record {
-      clause = clause;
-      is = here;
-      wrong = all_false c.args.trail.now.vars values c.args.trail.now.places clause c.values.ensures.is (sym e ∙ c.in-False.is);
-    })
+    c.clause.ensures ∙ ap Some (sym (get_or_from_slice_get list c.args.at c.clause.result.now [] c.clause.ensures)) in (
+      refl,
+      record {
+        clause = clause;
+        is = here;
+        wrong = all_false c.args.trail.now.vars values c.args.trail.now.places clause c.values.ensures.is (sym e ∙ c.in-False.is);
+      },
+    )

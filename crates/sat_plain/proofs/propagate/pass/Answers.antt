@@ -1,4 +1,4 @@
-use Rattle.std.proofs.Common.{◌≡◌, ℕ, List, [], get_or, sym, subst, ◌∙◌, ap, arith}
+use Rattle.std.proofs.Common.{[], ◌∙◌, ap, arith}
 use Rattle.std.proofs.lemmas.List.{get_or_default}
 use Rattle.refute_check.specs.Lines.{found_of, open_lits}
 use Rattle.sat_plain.proofs.propagate.pass.Goals as goal

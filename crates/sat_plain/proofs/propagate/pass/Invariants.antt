@@ -1,4 +1,3 @@
-use Rattle.std.proofs.Common.{◌≡◌}
 use Rattle.sat_plain.proofs.StepLemmas.{IsPassing}
 use Rattle.sat_plain.proofs.propagate.pass.Given as goal
 

@@ -1,11 +1,9 @@
-use Rattle.std.proofs.Common.{◌≡◌, ℕ, ◌-◌, ◌^◌, ◌<◌, ◌≤◌, List, take, refl, sym, subst, ◌∙◌, ap, arith}
-use Rattle.refute_check.specs.Checked.{Numbering}
-use Rattle.refute_check.specs.declared.lines.Line.{Line}
+use Rattle.std.proofs.Common.{◌≡◌, ℕ, ◌^◌, ◌<◌, List, take, refl, subst, ◌∙◌, ap, arith}
 use Rattle.refute_check.specs.declared.lines.Refuted.{Refuted}
 use Rattle.sat_plain.specs.declared.place.Place.{Place}
 use Rattle.sat_plain.specs.Trails.{lits_of, kinds_of}
 use Rattle.sat_plain.specs.Rank.{rank}
-use Rattle.sat_plain.specs.Turns.{IsNext, IsExtended, IsModel, IsCore}
+use Rattle.sat_plain.specs.Turns.{IsModel, IsCore}
 use Rattle.sat_plain.proofs.RankLemmas.{rank_below}
 use Rattle.sat_plain.proofs.SearchLemmas.{within_bound, model_of_old, refutation_of, extended_chain, as_at_first}
 use Rattle.sat_plain.proofs.search.search.Goals as goal
@@ -41,7 +39,7 @@ returns-in-Refutes-clause-answer g c =
     c.loop-row.query.trail.places c.turn.new.query.trail.places c.loop-row.query.lines c.turn.new.query.lines
     c.loop-row.clauses c.turn.new.clauses i.0 i.1 c.turn.ensures.next in
     let P : ℕ → Type 0 = λ n.
-        IsCore (take n (lits_of c.turn.new.query.trail.places)) c.turn.new.clauses.list c.in-Refutes.core in
+    IsCore (take n (lits_of c.turn.new.query.trail.places)) c.turn.new.clauses.list c.in-Refutes.core in
     let refuted : Refuted = record { core = c.in-Refutes.core; lines = c.turn.new.query.lines } in
     refutation_of c.args.query.trail.vars c.args.query.assumed c.args.query.trail.places c.turn.new.query.trail.places
     c.args.clauses.now.list c.turn.new.query.lines c.turn.new.clauses.list refuted refl (next.base ∙ i.2.base)

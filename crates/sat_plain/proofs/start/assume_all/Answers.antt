@@ -1,4 +1,4 @@
-use Rattle.std.proofs.Common.{◌≡◌, ℕ, ◌<◌, List, length, sym, ◌∙◌, ap, arith}
+use Rattle.std.proofs.Common.{ℕ, ◌<◌, List, length, sym, ◌∙◌, ap, arith}
 use Rattle.ja_base.specs.Literals.{bit, negated}
 use Rattle.sat_plain.proofs.Members.{taken_is_on}
 use Rattle.sat_plain.proofs.start.assume_all.Goals as goal
@@ -9,9 +9,8 @@ returns-then-is_true-clause-assumed c =
     let lit : ℕ = c.lit-item.result in
     let is = c.is_true.ensures.is in
     let within : c.loop-lit.lit-index < length under = omega arith in
-    let t = ap (bit c.loop-lit.trail.values) (sym c.not.ensures) ∙ sym c.is_true.ensures.value ∙ c.if-is_true.true in
-    (
+    let t = ap (bit c.loop-lit.trail.values) (sym c.not.ensures) ∙ sym c.is_true.ensures.value ∙ c.if-is_true.true in (
       (c.loop-lit.lit-index, within, sym c.lit-item.is),
       taken_is_on under c.loop-lit.lit-index (negated lit)
-      (c.loop-lit.invariant.1.only (negated lit) (is.only (negated lit) t)),
+          (c.loop-lit.invariant.1.only (negated lit) (is.only (negated lit) t)),
     )

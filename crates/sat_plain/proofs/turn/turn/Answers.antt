@@ -1,4 +1,4 @@
-use Rattle.std.proofs.Common.{◌≡◌, ℕ, ◌<◌, ◌≤◌, List, Option, None, Ok, length, sym, subst, ap, arith}
+use Rattle.std.proofs.Common.{ℕ, ◌≤◌, List, Option, None, Ok, sym, subst, arith}
 use Rattle.std.specs.List.{All}
 use Rattle.ja_base.specs.Clauses.{IsBelow}
 use Rattle.sat_plain.specs.Trails.{lits_of, kinds_of}
@@ -36,8 +36,8 @@ returns-in-Ok-None-clause-turned g c =
     (omega (arith, lits_length c.advance.new.trail.places, c.advance.ensures.vars)) in
     let P : ℕ → Type 0 = λ n. IsFurther n c.advance.new.trail.places c.learn.new.query.trail.places in
     let R : Option (List ℕ) → Type 0 = λ o.
-        IsLearnt c.advance.new.trail.vars c.args.query.now.assumed c.advance.new.trail.places c.args.query.now.lines
-        c.learn.new.query.trail.places c.learn.new.query.lines c.learn.new.clauses.list (Ok o) in
+    IsLearnt c.advance.new.trail.vars c.args.query.now.assumed c.advance.new.trail.places c.args.query.now.lines
+    c.learn.new.query.trail.places c.learn.new.query.lines c.learn.new.clauses.list (Ok o) in
     let learnt : R None = subst R c.in-Ok-None.field-0-is c.in-Ok-None.ensures.answer in
     let second : IsFurther vars c.advance.new.trail.places c.learn.new.query.trail.places =
     subst P c.advance.ensures.vars learnt.1 in

@@ -1,7 +1,7 @@
-use Rattle.std.proofs.Common.{◌≡◌, ℕ, List, sym, subst, ◌∙◌, ap, arith}
+use Rattle.std.proofs.Common.{◌≡◌, ℕ, List, subst, arith}
 use Rattle.sat_plain.specs.declared.place.Place.{Place}
 use Rattle.sat_plain.specs.Trails.{lits_of}
-use Rattle.sat_plain.specs.Derive.{Derived, IsWalked}
+use Rattle.sat_plain.specs.Derive.{IsWalked}
 use Rattle.sat_plain.specs.Walks.{IsWalking}
 use Rattle.sat_plain.proofs.WalkLemmas.{last_set, walked_of}
 use Rattle.sat_plain.proofs.walk.derive.Goals as goal

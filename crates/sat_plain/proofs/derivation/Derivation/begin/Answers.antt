@@ -1,9 +1,10 @@
-use Rattle.std.proofs.Common.{rules, ◌≡◌, ℕ, ◌*◌, Bool, List, [], ◌∷◌, ◌++◌, length, false, refl, sym, subst, ◌∙◌, ap}
+use Rattle.std.proofs.Common.{rules, ◌≡◌, ℕ, Bool, List, [], ◌∷◌, ◌++◌, length, sym, subst, ◌∙◌, ap}
 use Rattle.std.specs.Vec.{with_items}
 use Rattle.std.proofs.lemmas.List.{with_items_is}
 use Rattle.refute_check.specs.Lines.{assumed, unknown}
 use Rattle.sat_plain.specs.Derive.{Derived, IsDerived}
-use Rattle.sat_plain.proofs.DeriveLemmas.{begun, same_derived, length_assumed}
+use Rattle.sat_plain.proofs.AssumedLemmas.{length_assumed}
+use Rattle.sat_plain.proofs.DeriveLemmas.{begun, same_derived}
 use Rattle.sat_plain.proofs.derivation.Derivation.begin.Goals as goal
 
 pub returns-clause-begins : goal.returns-clause-begins

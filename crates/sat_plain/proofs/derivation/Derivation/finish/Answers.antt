@@ -1,8 +1,8 @@
-use Rattle.std.proofs.Common.{◌≡◌, ℕ, List, None, reverse, sym, subst, ◌∙◌, ap}
+use Rattle.std.proofs.Common.{◌≡◌, ℕ, List, reverse, subst, ◌∙◌, ap}
 use Rattle.ja_base.specs.Clauses.{IsSetOf}
 use Rattle.refute_check.specs.Lines.{refusal}
 use Rattle.sat_plain.specs.Derive.{Derived}
-use Rattle.sat_plain.proofs.DeriveLemmas.{finished}
+use Rattle.sat_plain.proofs.FinishLemmas.{finished}
 use Rattle.sat_plain.proofs.derivation.Derivation.finish.Goals as goal
 
 pub returns-clause-accepted : goal.returns-clause-accepted

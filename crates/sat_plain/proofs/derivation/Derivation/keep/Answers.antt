@@ -1,4 +1,4 @@
-use Rattle.std.proofs.Common.{◌≡◌, ℕ, Bool, List, [], ◌∷◌, ◌++◌, refl, sym, subst, ◌∙◌, ap}
+use Rattle.std.proofs.Common.{◌≡◌, [], ◌∷◌, ◌++◌, sym, subst, ◌∙◌, ap}
 use Rattle.ja_base.specs.Literals.{negated}
 use Rattle.sat_plain.specs.Derive.{Derived, IsDerived}
 use Rattle.sat_plain.proofs.DeriveLemmas.{kept_one, same_derived}

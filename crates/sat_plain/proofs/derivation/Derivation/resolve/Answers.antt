@@ -1,10 +1,12 @@
-use Rattle.std.proofs.Common.{◌≡◌, ℕ, Bool, false, List, [], ◌∷◌, ◌++◌, set, length, refl, sym, subst, ◌∙◌, ap}
-use Rattle.std.specs.Vec.{with_items, with_item}
+use Rattle.std.proofs.Common.{◌≡◌, ℕ, Bool, false, List, [], ◌∷◌, ◌++◌, set, length, sym, subst, ◌∙◌, ap}
+use Rattle.std.specs.Vec.{with_items}
 use Rattle.std.proofs.lemmas.List.{with_items_is}
 use Rattle.ja_base.specs.Literals.{negated}
 use Rattle.refute_check.specs.Lines.{assumed}
 use Rattle.sat_plain.specs.Derive.{Derived, IsDerived}
-use Rattle.sat_plain.proofs.DeriveLemmas.{resolved, same_derived, length_assumed}
+use Rattle.sat_plain.proofs.AssumedLemmas.{length_assumed}
+use Rattle.sat_plain.proofs.DeriveLemmas.{same_derived}
+use Rattle.sat_plain.proofs.ResolveLemmas.{resolved}
 use Rattle.sat_plain.proofs.derivation.Derivation.resolve.Goals as goal
 
 pub returns-clause-resolves : goal.returns-clause-resolves

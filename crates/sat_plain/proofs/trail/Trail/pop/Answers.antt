@@ -1,8 +1,8 @@
-use Rattle.std.proofs.Common.{◌≡◌, ℕ, ◌+◌, ◌<◌, ◌≤◌, Bool, true, false, List, [], ◌∷◌, ◌++◌, length, set, Some, sym, subst, ◌∙◌, ap, arith}
+use Rattle.std.proofs.Common.{◌≡◌, ℕ, ◌≤◌, Bool, false, List, [], ◌∷◌, ◌++◌, set, sym, subst, ◌∙◌, ap, arith}
 use Rattle.std.proofs.lemmas.List.{map_push}
 use Rattle.std.specs.Option.{option_to_list}
 use Rattle.sat_plain.specs.declared.place.Place.{Place}
-use Rattle.sat_plain.specs.Trails.{Assigned, IsTrail, lits_of}
+use Rattle.sat_plain.specs.Trails.{IsTrail, lits_of}
 use Rattle.sat_plain.proofs.TrailLemmas.{popped}
 use Rattle.sat_plain.proofs.trail.Trail.pop.Goals as goal
 

@@ -1,4 +1,4 @@
-use Rattle.std.proofs.Common.{◌≡◌, ℕ, ◌+◌, ◌<◌, ◌≤◌, Bool, true, false, List, [], ◌∷◌, ◌++◌, length, set, refl, sym, subst, ◌∙◌, ap, arith}
+use Rattle.std.proofs.Common.{◌≡◌, ℕ, ◌<◌, ◌≤◌, Bool, true, false, List, [], ◌∷◌, ◌++◌, set, refl, sym, subst, ◌∙◌, ap, arith}
 use Rattle.std.proofs.lemmas.List.{length_push}
 use Rattle.ja_base.specs.Literals.{bit, variable, negated}
 use Rattle.sat_plain.specs.declared.place.Place.{Place}
@@ -35,12 +35,11 @@ invariant_of-self c =
     let places : List Place = c.self.inside.places.items in
     let place : Place = record { lit = c.args.lit; reason = c.args.reason } in
     let room : c.self.inside.vars ≤ c.push_reserved.new.self.cap =
-    let e = c.push_reserved.ensures.capacity in let r = c.self.invariant.1 in omega arith in
-    (
+    let e = c.push_reserved.ensures.capacity in let r = c.self.invariant.1 in omega arith in (
       is_pushed c.args.self.now c.self.inside.vars c.args.lit c.number.result c.self.inside.values.items places
-      c.push_reserved.new.self.items place (ap (λ (a : Assigned). a.vars) c.self.view_is)
-      (ap (λ (a : Assigned). a.values) c.self.view_is) c.number.ensures c.push_reserved.ensures.items refl c.requires.below
-      c.requires.unset c.requires.free c.self.invariant.0,
+          c.push_reserved.new.self.items place (ap (λ (a : Assigned). a.vars) c.self.view_is)
+          (ap (λ (a : Assigned). a.values) c.self.view_is) c.number.ensures c.push_reserved.ensures.items refl c.requires.below
+          c.requires.unset c.requires.free c.self.invariant.0,
       room,
       c.self.invariant.2,
     )

@@ -1,11 +1,11 @@
-use Rattle.std.proofs.Common.{◌≡◌, ℕ, ◌+◌, ◌*◌, ◌<◌, List, [], ◌∷◌, ◌++◌, Option, Some, None, unwrap_or, slice_get, length, take, sym, subst, ◌∙◌, ap, arith}
+use Rattle.std.proofs.Common.{◌≡◌, ℕ, ◌<◌, List, [], ◌∷◌, ◌++◌, Some, slice_get, length, take, sym, subst, ◌∙◌, arith}
 use Rattle.std.proofs.lemmas.Bool.{OnTrue_at}
 use Rattle.std.proofs.lemmas.Option.{slice_get_within, same_Some}
 use Rattle.ja_base.specs.Literals.{variable, negated}
-use Rattle.ja_base.proofs.LiteralLemmas.{literal_within, negated_within}
+use Rattle.ja_base.proofs.LiteralLemmas.{literal_within}
 use Rattle.sat_plain.specs.declared.place.Place.{Place}
-use Rattle.sat_plain.specs.Trails.{IsForcedBy, IsReason, lits_of}
-use Rattle.sat_plain.specs.Derive.{Derived, IsWalked}
+use Rattle.sat_plain.specs.Trails.{IsReason, lits_of}
+use Rattle.sat_plain.specs.Derive.{IsWalked}
 use Rattle.sat_plain.specs.Walks.{IsLast}
 use Rattle.sat_plain.proofs.PlaceLemmas.{lits_at}
 use Rattle.sat_plain.proofs.WalkLemmas.{last_lower, last_kept, walked_of, place_below, spans_of, below_at}

@@ -1,0 +1,50 @@
+//! Another solver, for tests.
+
+use crate::{PlainSat, Sat, SatAnswer};
+use ja_base::{Clause, Lit, Memory, Meter, Var};
+use ja_outside::Flag;
+use std::alloc::Global;
+
+/// A solver that finds no room for a row.
+#[derive(Debug, Drop)]
+pub(crate) struct NoRows {
+    plain: PlainSat,
+}
+
+impl Sat for NoRows {
+    ghost count = { λ s. s.plain.vars };
+
+    ghost added = { λ s. s.plain.added };
+
+    fn make(alloc: Global, vars: u32) -> Result<NoRows, Memory> {
+        let plain = PlainSat::make(alloc, vars)?;
+        Ok(NoRows { plain })
+    }
+
+    fn fresh(&mut self) -> Result<Var, Memory> {
+        let var = self.plain.fresh()?;
+        Ok(var)
+    }
+
+    fn add(&mut self, alloc: Global, clause: &Clause) -> Result<u32, Memory> {
+        let number = self.plain.add(alloc, clause)?;
+        Ok(number)
+    }
+
+    fn solve<F: Flag>(
+        &mut self,
+        alloc: Global,
+        under: &[Lit],
+        extra: Option<&Clause>,
+        meter: &mut Meter,
+        flag: &mut F,
+    ) -> SatAnswer {
+        match self.plain.solve(alloc, under, extra, meter, flag) {
+            SatAnswer::Sat(_) => SatAnswer::Memory,
+            SatAnswer::Unsat(refuted) => SatAnswer::Unsat(refuted),
+            SatAnswer::Spent => SatAnswer::Spent,
+            SatAnswer::Stopped => SatAnswer::Stopped,
+            SatAnswer::Memory => SatAnswer::Memory,
+        }
+    }
+}
