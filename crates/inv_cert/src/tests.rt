@@ -47,6 +47,8 @@ enum Given {
     CoversUnfinished,
 }
 
+use Given::{Covers, CoversUnfinished, Holds, Missing, NoLine, SecondUnfinished, Unfinished};
+
 fn latch(lit: u32, next: u32, reset: Reset) -> Latch
     ensures { result ≡ record { lit = lit; next = next; reset = reset } }
 {
@@ -170,15 +172,15 @@ fn check(
     alloc: Global,
     coded: &Coded,
     base: &Closed,
-    candidates: &[Numbers],
-    given: &[Given],
+    candidates: [Numbers; 2],
+    given: [Given; 2],
 ) -> Result<Result<Closed, NotClosed>, Memory>
     requires { problem base.now.task ≡ problem coded.now }
     ensures { IfOk result (λ answer. IfOk answer (λ closed. closed.task ≡ coded.now)) }
 {
     assert!(rt; coded.vars() == 7);
-    let candidates = clauses(rt, alloc, candidates)?;
-    match Closed::check(alloc, coded, base, candidates, proofs(alloc, given)?) {
+    let candidates = clauses(rt, alloc, &candidates)?;
+    match Closed::check(alloc, coded, base, candidates, proofs(alloc, &given)?) {
         Ok(closed) => Ok(Ok(closed)),
         Err(OrMemory::Refused(refusal)) => Ok(Err(refusal)),
         Err(OrMemory::Memory) => Err(Memory),
@@ -214,54 +216,69 @@ fn numbers(list: &ClauseList) -> [Numbers; 2] {
     numbers
 }
 
+/// Candidates with their proofs, and what is answered.
+type Row = ([Numbers; 2], [Given; 2], Result<[Numbers; 2], NotClosed>);
+
 // The candidates AB and BC stand at 13 and 14: with AB before it, BC needs no line.
+const ROWS: [Row; 15] = [
+    ([NO, NO], [Missing, Missing], Ok([NO, NO])),
+    ([AB, NO], [Holds, Missing], Ok([AB, NO])),
+    ([AB, NO], [Holds, NoLine], Ok([AB, NO])),
+    ([AB, AB], [Holds, Holds], Ok([AB, NO])),
+    ([AB, BC], [Holds, NoLine], Ok([AB, BC])),
+    ([AB, NO], [Missing, Missing], Err(NotClosed::Missing(0))),
+    ([AB, BC], [Holds, Missing], Err(NotClosed::Missing(1))),
+    (
+        [[8, 0], [4, 0]],
+        [Missing, Missing],
+        Err(NotClosed::Foreign(0)),
+    ),
+    ([AB, [2, 3]], [Holds, Missing], Err(NotClosed::Foreign(1))),
+    (
+        [[4, 0], [8, 0]],
+        [Missing, Missing],
+        Err(NotClosed::Start(0)),
+    ),
+    ([AB, [3, 6]], [Holds, Missing], Err(NotClosed::Start(1))),
+    (
+        [AB, NO],
+        [Unfinished, Missing],
+        Err(NotClosed::Line(0, 0, 1)),
+    ),
+    (
+        [AB, BC],
+        [Holds, SecondUnfinished],
+        Err(NotClosed::Line(1, 1, 1)),
+    ),
+    ([AB, NO], [NoLine, Holds], Err(NotClosed::Left(0))),
+    ([AB, AC], [Holds, NoLine], Err(NotClosed::Left(1))),
+];
+
+/// Whether the row is answered as it says.
+fn is_answered(
+    rt: &impl Abort,
+    alloc: Global,
+    coded: &Coded,
+    base: &Closed,
+    row: Row,
+) -> Result<bool, Memory>
+    requires { problem base.now.task ≡ problem coded.now }
+{
+    let (candidates, given, expected) = row;
+    match check(rt, alloc, coded, base, candidates, given)? {
+        Ok(closed) => Ok(expected == Ok(numbers(closed.clauses()))),
+        Err(refusal) => Ok(expected == Err(refusal)),
+    }
+}
+
 #[test]
 fn checks_candidates(rt: HostRuntime) -> Result<(), Fail> {
-    use Given::{Holds, Missing, NoLine, SecondUnfinished, Unfinished};
     let alloc = rt.alloc();
     let task = ring_task(alloc)?;
     let coded = Coded::new(alloc, &task)?;
-    let rows = [
-        ([NO, NO], [Missing, Missing], Ok([NO, NO])),
-        ([AB, NO], [Holds, Missing], Ok([AB, NO])),
-        ([AB, NO], [Holds, NoLine], Ok([AB, NO])),
-        ([AB, AB], [Holds, Holds], Ok([AB, NO])),
-        ([AB, BC], [Holds, NoLine], Ok([AB, BC])),
-        ([AB, NO], [Missing, Missing], Err(NotClosed::Missing(0))),
-        ([AB, BC], [Holds, Missing], Err(NotClosed::Missing(1))),
-        (
-            [[8, 0], [4, 0]],
-            [Missing, Missing],
-            Err(NotClosed::Foreign(0)),
-        ),
-        ([AB, [2, 3]], [Holds, Missing], Err(NotClosed::Foreign(1))),
-        (
-            [[4, 0], [8, 0]],
-            [Missing, Missing],
-            Err(NotClosed::Start(0)),
-        ),
-        ([AB, [3, 6]], [Holds, Missing], Err(NotClosed::Start(1))),
-        (
-            [AB, NO],
-            [Unfinished, Missing],
-            Err(NotClosed::Line(0, 0, 1)),
-        ),
-        (
-            [AB, BC],
-            [Holds, SecondUnfinished],
-            Err(NotClosed::Line(1, 1, 1)),
-        ),
-        ([AB, NO], [NoLine, Holds], Err(NotClosed::Left(0))),
-        ([AB, AC], [Holds, NoLine], Err(NotClosed::Left(1))),
-    ];
     let base = Closed::empty(alloc, &task)?;
-    for (candidates, given, expected) in rows {
-        let answer = check(&rt, alloc, &coded, &base, &candidates, &given)?;
-        assert_eq!(rt;
-            answer.map(|closed| numbers(closed.clauses())),
-            expected,
-            "{candidates:?} by {given:?}"
-        );
+    for row in ROWS {
+        assert!(rt; is_answered(&rt, alloc, &coded, &base, row)?, "{row:?}");
     }
     Ok(())
 }
@@ -269,12 +286,11 @@ fn checks_candidates(rt: HostRuntime) -> Result<(), Fail> {
 // The checker of a property has the list at 10, and no assumption.
 #[test]
 fn goes_on_from_a_list(rt: HostRuntime) -> Result<(), Fail> {
-    use Given::{Covers, CoversUnfinished, Holds, Missing, NoLine};
     let alloc = rt.alloc();
     let task = ring_task(alloc)?;
     let coded = Coded::new(alloc, &task)?;
     let none = Closed::empty(alloc, &task)?;
-    let Ok(base) = check(&rt, alloc, &coded, &none, &[AB], &[Holds])? else {
+    let Ok(base) = check(&rt, alloc, &coded, &none, [AB, NO], [Holds, Missing])? else {
         panic!(rt; "not closed");
     };
     let rows = [
@@ -291,7 +307,7 @@ fn goes_on_from_a_list(rt: HostRuntime) -> Result<(), Fail> {
         ([BC, NO], [NoLine, Missing], [AB, BC]),
     ];
     for (candidates, given, expected) in rows {
-        let Ok(closed) = check(&rt, alloc, &coded, &base, &candidates, &given)? else {
+        let Ok(closed) = check(&rt, alloc, &coded, &base, candidates, given)? else {
             panic!(rt; "{candidates:?} by {given:?}");
         };
         assert_eq!(rt; numbers(closed.clauses()), expected);
