@@ -1,5 +1,5 @@
 -- A closed list that is seen for another task with the same problem, and what an answer says of it.
-use Rattle.std.proofs.Common.{◌≡◌, ℕ, ◌+◌, Some, None, Ok, Err, Result, List, [], ◌∷◌, ◌++◌, length, slice_get, false, sym, ap, subst, ◌∙◌}
+use Rattle.std.proofs.Common.{◌≡◌, ℕ, ◌+◌, Some, None, Ok, Err, Result, List, [], ◌∷◌, length, slice_get, false, sym, ap, subst, ◌∙◌}
 use Rattle.std.specs.List.{All}
 use Rattle.std.proofs.lemmas.Option.{get_or_from_slice_get}
 use Rattle.ja_base.specs.Answers.{IfRefused}

@@ -1,15 +1,14 @@
 -- Accepted candidates are inductive over the list, and what is accepted for a property covers it.
-use Rattle.std.proofs.Common.{◌≡◌, ℕ, ◌+◌, ◌<◌, ◌||◌, Bool, true, false, not, cond, Option, Some, None, List, [], ◌∷◌, ◌++◌, length, get_or, map, slice_get, refl, sym, ap, subst, ◌∙◌, arith}
+use Rattle.std.proofs.Common.{◌≡◌, ℕ, ◌+◌, ◌<◌, ◌||◌, Bool, true, false, Option, Some, None, List, [], ◌∷◌, ◌++◌, length, get_or, map, slice_get, refl, sym, subst, ◌∙◌}
 use Rattle.std.specs.List.{list_any, All}
 use Rattle.std.proofs.lemmas.Bool.{both_ways, true_from_ne_false}
 use Rattle.std.proofs.lemmas.List.Elements.{All-append, All-map, All-cons, All-nil}
-use Rattle.std.proofs.lemmas.Option.{slice_get-get_or, slice_get_within, get_or_from_slice_get}
-use Rattle.ja_base.specs.Literals.{bit, value, SatisfiedBy, AllSatisfiedBy}
+use Rattle.std.proofs.lemmas.Option.{slice_get-get_or}
+use Rattle.ja_base.specs.Literals.{value, SatisfiedBy, AllSatisfiedBy}
 use Rattle.ja_base.specs.Circuit.{bad_literal}
-use Rattle.ja_base.specs.Valuation.{IsValuation, latch_row, next_state, IsGood, MeetsConstraints, AssumptionsHold}
-use Rattle.ja_base.specs.Runs.{IsInitial}
+use Rattle.ja_base.specs.Valuation.{IsValuation, MeetsConstraints, AssumptionsHold}
 use Rattle.ja_base.specs.Invariants.{latch_value, MeetsClauses, Covers}
-use Rattle.aig_model.specs.Netlist.{Netlist, IsSound, circuit}
+use Rattle.aig_model.specs.Netlist.{IsSound, circuit}
 use Rattle.aig_model.specs.Task.{VerificationTask}
 use Rattle.ja_project.specs.CodedClauses.{coded_clauses, held_literals}
 use Rattle.ja_project.proofs.StepLemmas.{clauses_mean_steps}
@@ -19,14 +18,12 @@ use Rattle.refute_check.specs.declared.lines.Refuted.{Refuted}
 use Rattle.refute_check.specs.Lines.{refusal}
 use Rattle.refute_check.specs.Laws as laws
 use Rattle.refute_check.specs.Laws.{with_lines}
-use Rattle.refute_check.specs.Refuted.{IsRefuted, Satisfies, is_covered}
+use Rattle.refute_check.specs.Refuted.{IsRefuted, is_covered}
 use Rattle.refute_check.proofs.Covered.{covered_by_lines}
-use Rattle.inv_cert.specs.declared.not_closed.NotClosed.{NotClosed}
-use Rattle.inv_cert.specs.declared.not_closed.NotClosed.TheVariants as case
-use Rattle.inv_cert.specs.Closed.{is_foreign, is_over_latch}
+use Rattle.inv_cert.specs.Closed.{is_foreign}
 use Rattle.inv_cert.specs.Start.{starts}
 use Rattle.inv_cert.specs.Obligations.{step_clauses, cover_clauses, obligation}
-use Rattle.inv_cert.specs.Refusals.{hint_or, refused_line, proof_refusal, candidate_refusal, AreAccepted}
+use Rattle.inv_cert.specs.Refusals.{hint_or, refused_line, proof_refusal, AreAccepted}
 use Rattle.inv_cert.specs.Taken.{refusal_by}
 use Rattle.inv_cert.proofs.InductionLemmas.{All-part, first_is_part, second_is_part}
 use Rattle.inv_cert.proofs.JoinLemmas.{AreInductiveOver}

@@ -1,13 +1,11 @@
 -- What a checker has taken of a proof, line by line.
-use Rattle.std.proofs.Common.{◌≡◌, ℕ, zero, suc, ◌+◌, ◌-◌, ◌<◌, ◌≤◌, ◌^◌, Bool, true, false, cond, Option, Some, None, List, [], ◌∷◌, ◌++◌, length, map, take, is_none, append_assoc, append-nil, refl, sym, ap, subst, ◌∙◌, arith}
+use Rattle.std.proofs.Common.{◌≡◌, ℕ, ◌+◌, ◌≤◌, true, Option, Some, None, List, [], ◌∷◌, ◌++◌, length, map, is_none, append_assoc, append-nil, refl, sym, ap, subst, ◌∙◌, arith}
 use Rattle.refute_check.specs.Lines.{refusal, accepts_line}
 use Rattle.refute_check.specs.Laws.{with_lines}
-use Rattle.refute_check.specs.Checked.{Checked, with_line, without_lines}
-use Rattle.refute_check.specs.Refuted.{is_covered}
+use Rattle.refute_check.specs.Checked.{Checked, with_line}
 use Rattle.refute_check.specs.declared.lines.Line.{Line}
-use Rattle.inv_cert.specs.declared.not_closed.NotClosed.{NotClosed}
 use Rattle.inv_cert.specs.declared.not_closed.NotClosed.TheVariants as case
-use Rattle.inv_cert.specs.Refusals.{hint_or, refused_line, proof_refusal}
+use Rattle.inv_cert.specs.Refusals.{hint_or, refused_line}
 use Rattle.inv_cert.specs.Taken.{IsLoaded, HasTaken, line_refusal}
 
 -- so many lines are taken, and these are left

@@ -1,10 +1,10 @@
 -- What literals over latches are in a step, and one step later.
-use Rattle.std.proofs.Common.{◌≡◌, ℕ, ◌+◌, ◌<◌, ◌==◌, ◌||◌, eqb, eqb-true, Bool, true, false, not, cond, List, [], ◌∷◌, length, get_or, map, refl, sym, ap, ◌∙◌, arith}
+use Rattle.std.proofs.Common.{◌≡◌, ℕ, ◌==◌, ◌||◌, eqb, eqb-true, Bool, true, false, not, cond, List, [], ◌∷◌, get_or, map, refl, sym, ap, ◌∙◌, arith}
 use Rattle.std.specs.List.{list_any, All, AllByRecursion}
-use Rattle.std.proofs.lemmas.Bool.{or_parts, both_ways}
+use Rattle.std.proofs.lemmas.Bool.{or_parts}
 use Rattle.std.proofs.lemmas.Bool.Decides.{nat_tests}
 use Rattle.std.proofs.lemmas.List.Elements.{All-from_recursion}
-use Rattle.ja_base.specs.Literals.{bit, variable, negated, value, with_sign, SatisfiedBy, AllSatisfiedBy}
+use Rattle.ja_base.specs.Literals.{bit, variable, value, with_sign, SatisfiedBy, AllSatisfiedBy}
 use Rattle.ja_base.specs.Circuit as plain
 use Rattle.ja_base.specs.Valuation.{latch_row, next_state}
 use Rattle.ja_base.specs.Invariants.{latch_value, MeetsClauses}

@@ -1,4 +1,4 @@
-use Rattle.std.proofs.Common.{Some, List, ℕ, ◌-◌, ◌+◌, ◌<◌, drop, set, sym, subst, ◌∙◌, arith}
+use Rattle.std.proofs.Common.{Some, ℕ, ◌-◌, ◌+◌, ◌<◌, drop, set, sym, subst, ◌∙◌, arith}
 use Rattle.ja_base.specs.Literals.{variable}
 use Rattle.ja_project.proofs.BelowLemmas.{new_is_below}
 use Rattle.inv_cert.specs.Resets.{HasResets}

@@ -1,4 +1,4 @@
-use Rattle.std.proofs.Common.{◌≡◌, List, ℕ, length, sym, ap, subst, ◌∙◌}
+use Rattle.std.proofs.Common.{List, ℕ, length, sym, subst, ◌∙◌}
 use Rattle.ja_base.specs.ClauseSets.{joined}
 use Rattle.aig_model.specs.Task.{VerificationTask, problem}
 use Rattle.inv_cert.specs.Closed.{ClosedList, IsClosed}
