@@ -17,4 +17,6 @@ pub use outcome::Outcome;
 pub use run::{Ran, jasign_run};
 
 #[cfg(test)]
+mod rows;
+#[cfg(test)]
 mod tests;
