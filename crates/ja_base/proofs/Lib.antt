@@ -1,2 +1,4 @@
 pub mod ClauseLemmas
 pub mod LiteralLemmas
+pub mod JoinLemmas
+pub mod SetLemmas

@@ -1,7 +1,7 @@
 -- The negation of a literal.
-use Rattle.std.proofs.Common.{◌≡◌, ℕ, ◌+◌, ◌-◌, ◌*◌, ◌<◌, ◌/◌, ◌%◌, ◌==◌, Bool, true, false, not, cond, List, refl, sym, ◌∙◌, ap, arith}
+use Rattle.std.proofs.Common.{◌≡◌, ℕ, ◌*◌, ◌<◌, Bool, true, false, not, cond, List, refl, ◌∙◌, ap, arith}
 use Rattle.std.proofs.lemmas.Bool.Decides.{nat_tests}
-use Rattle.ja_base.specs.Literals.{bit, variable, is_negated, negated, with_sign, value}
+use Rattle.ja_base.specs.Literals.{bit, variable, is_negated, negated, value}
 
 pub variable_negated : (l : ℕ) → variable (negated l) ≡ variable l
 variable_negated l = grind (arith, nat_tests)

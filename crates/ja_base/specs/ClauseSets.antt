@@ -14,3 +14,8 @@ has_clause clauses clause = list_any (λ c. bytes_eq c clause) clauses
 abbrev pub joined : List (List ℕ) → List (List ℕ) → List (List ℕ)
 joined clauses [] = clauses
 joined clauses (c ∷ cs) = joined (if has_clause clauses c then clauses else clauses ++ c ∷ []) cs
+
+-- the clauses of the second list that the first does not have, in order, each once
+abbrev pub fresh : List (List ℕ) → List (List ℕ) → List (List ℕ)
+fresh clauses [] = []
+fresh clauses (c ∷ cs) = if has_clause clauses c then fresh clauses cs else c ∷ fresh (clauses ++ c ∷ []) cs

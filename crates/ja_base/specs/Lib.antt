@@ -11,3 +11,6 @@ pub mod Clauses
 pub mod Meter
 pub mod ClauseSets
 pub mod Budget
+pub mod Trails
+pub mod Failures
+pub mod Codes

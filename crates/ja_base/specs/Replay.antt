@@ -1,6 +1,6 @@
 -- The verdict of a replay: the first reason why a stimulus is no local failure of a property, or that it is one. The
 -- reasons are taken in this order: the first row, a constraint, the last step, the assumptions at earlier steps.
-use Rattle.std.specs.Prelude.{◌≡◌, ℕ, ◌<◌, Bool, true, not, Option, Some, List, [], ◌∷◌, ◌++◌, length, slice_get, slice_index_or}
+use Rattle.std.specs.Prelude.{◌≡◌, ℕ, ◌<◌, Bool, true, not, Some, List, [], ◌∷◌, ◌++◌, length, slice_get, slice_index_or}
 use Rattle.ja_base.specs.Literals.{bit}
 use Rattle.ja_base.specs.Circuit.{Circuit, Latch, Problem}
 use Rattle.ja_base.specs.Valuation.{IsBad, IsGood, MeetsConstraints}

@@ -1,6 +1,6 @@
 //! The one list type: contracts see it as a list.
 
-ghost use Rattle.std.specs.Prelude.{◌≡◌, ◌^◌, ◌<◌, [], ◌∷◌, ◌++◌, List, length, Some, slice_get, vec_len, OnOk, OnErr};
+ghost use Rattle.std.specs.Prelude.{◌≡◌, ◌^◌, ◌<◌, ◌↔◌, [], ◌∷◌, ◌++◌, List, length, Some, slice_get, slice_set, vec_len, IfSome, IsNone, OnOk, OnErr};
 
 use crate::Lit;
 use crate::memory::Memory;
@@ -84,6 +84,40 @@ impl<T> Items<T> {
             return Err(Memory);
         }
         self.items.push(item)?;
+        Ok(())
+    }
+
+    /// Takes the last item away, if there is one.
+    pub fn pop(&mut self) -> Option<T>
+        ensures some { IfSome result (λ item. self.old ≡ self.new ++ item ∷ []) }
+        ensures none { IsNone result ↔ (self.old ≡ []) }
+        ensures empty { IsNone result → self.new ≡ [] }
+    {
+        self.items.pop()
+    }
+
+    /// Puts an item in the place of another, which is dropped.
+    pub fn set(&mut self, at: u32, item: T)
+    where
+        T: Drop,
+        requires { at < length self.old }
+        ensures { self.new ≡ slice_set self.old at item }
+    {
+        self.items[at as usize] = item;
+    }
+
+    /// Moves the items of another list behind these; where they find no place they are dropped.
+    pub fn append(&mut self, more: Items<T>) -> Result<(), Memory>
+    where
+        T: Drop,
+        ensures ok { OnOk result (self.new ≡ self.old ++ more) }
+        ensures err { OnErr result (self.new ≡ self.old) }
+    {
+        if more.items.len() > u32::MAX as usize - self.items.len() {
+            return Err(Memory);
+        }
+        let mut more = more.items;
+        self.items.append(&mut more)?;
         Ok(())
     }
 }

@@ -1,6 +1,6 @@
-//! Plain values that every other crate speaks of: literals, lists, rows of bits, want of memory, and what a closed list is to
-//! those who use one. The product's meaning stands in `specs/`: `Literals`, `Circuit`, `Valuation`, `Runs`, `Replay`,
-//! `Invariants`, `Sets`, `Laws`, `Clauses`, `ClauseSets`, `Budget`.
+//! Plain values that every other crate speaks of: literals, lists, rows of bits, want of memory, and what closed lists and
+//! shown failures are to those who use them. The product's meaning stands in `specs/`: `Literals`, `Circuit`, `Valuation`, `Runs`, `Replay`,
+//! `Invariants`, `Sets`, `Laws`, `Clauses`, `ClauseSets`, `Trails`, `Failures`, `Budget`.
 #![tactic(auto)]
 
 mod clause;
@@ -10,6 +10,7 @@ mod literal;
 mod memory;
 mod meter;
 mod row;
+mod shown;
 #[cfg(test)]
 mod tests;
 
@@ -20,3 +21,4 @@ pub use literal::{Lit, Var};
 pub use memory::{Memory, OrMemory};
 pub use meter::{Meter, Spent, SpentNote};
 pub use row::{Row, Rows};
+pub use shown::Shown;

@@ -1,6 +1,7 @@
 //! The meter of a budget.
 
 ghost use Rattle.std.specs.Prelude.{◌≡◌, ◌+◌, ◌<◌, ◌≤◌, ◌↔◌, Some, IsTrue, IsSome, IsErr, IfSome, OnOk, OnErr};
+ghost use Rattle.std.specs.Option.{ForSome};
 ghost use Rattle.ja_base.specs.Meter.{next_count};
 
 use std::marker::Model;
@@ -37,6 +38,7 @@ pub struct Meter {
     limit: Option<u64>,
     spent: u64,
     refused: u64,
+    pub ghost within: { ForSome limit (λ n. spent ≤ n) },
     pub ghost at_limit: { 0 < refused → limit ≡ Some spent },
 }
 

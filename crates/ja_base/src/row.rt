@@ -145,4 +145,14 @@ impl Rows {
         self.rows.push(row)?;
         Ok(())
     }
+
+    pub fn copy(&self, alloc: Global) -> Result<Rows, Memory>
+        ensures { IfOk result (λ rows. rows ≡ self.now) }
+    {
+        let mut rows = Vec::new(alloc);
+        for row in self.as_slice() {
+            rows.push(row.copy(alloc)?)?;
+        }
+        Ok(Rows { rows })
+    }
 }

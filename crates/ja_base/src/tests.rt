@@ -16,6 +16,11 @@ fn makes_clauses(rt: HostRuntime) -> Result<(), Fail> {
     list.push(part)?;
     assert_eq!(rt; list.len(), 1);
     assert_eq!(rt; list.get(0).lits(), [Lit(5), Lit(12)].as_slice());
+    list.set(0, clause);
+    let mut lists = ClauseList::new(rt.alloc());
+    lists.append(list)?;
+    assert_eq!(rt; lists.pop().map(|clause| clause.lits().len()), Some(5));
+    assert!(rt; lists.pop().is_none());
     Ok(())
 }
 
@@ -23,6 +28,7 @@ fn makes_clauses(rt: HostRuntime) -> Result<(), Fail> {
 fn makes_rows(rt: HostRuntime) -> Result<(), Fail> {
     let mut rows = Rows::one(rt.alloc(), Row::ones(rt.alloc(), 2)?)?;
     rows.push(Row::zeros(rt.alloc(), 1)?.copy(rt.alloc())?)?;
+    let rows = rows.copy(rt.alloc())?;
     assert_eq!(rt; rows.len(), 2);
     assert_eq!(rt; rows.get(0).as_slice(), [true, true].as_slice());
     assert_eq!(rt; rows.get(1).as_slice(), [false].as_slice());

@@ -4,11 +4,12 @@ use Rattle.std.specs.List.Sorted.{IsPermutation}
 use Rattle.std.proofs.lemmas.List.{take_at}
 use Rattle.ja_base.specs.Clauses.{IsSetOf}
 use Rattle.ja_base.proofs.ClauseLemmas.{IsSetOf-sorted}
+use Rattle.ja_base.proofs.SetLemmas.{set_of_ascending}
 use Rattle.ja_base.proofs.clause.Clause.from_lits.Goals as goal
 
 -- the slice that was sorted is all of the list
-pub returns : goal.returns
-returns c =
+pub returns-clause-set : goal.returns-clause-set
+returns-clause-set c =
     let old : List ℕ = c.in_ok-lits.lits.items in
     let sorted : List ℕ = c.sort_unstable.new.self in
     let kept : length sorted ≡ length old = c.sort_unstable.ensures.len ∙ ap length c.as_mut_slice.ensures.value in
@@ -21,4 +22,7 @@ returns c =
     subst Q (sym is) (IsSetOf-sorted c.args.lits.now sorted same c.sort_unstable.ensures.sorted)
 
 pub invariant_of-result : goal.invariant_of-result
-invariant_of-result c = let all : IsSetOf c.args.lits.now c.dedup.new.self.items = returns c in all.ascends
+invariant_of-result c = let all : IsSetOf c.args.lits.now c.dedup.new.self.items = returns-clause-set c in all.ascends
+
+pub returns-clause-ascending : goal.returns-clause-ascending
+returns-clause-ascending c = λ up. set_of_ascending c.args.lits.now c.dedup.new.self.items up (returns-clause-set c)
