@@ -27,3 +27,10 @@ OnFailed (Bytes bytes) P = ⊤
 OnFailed TooLarge P = ⊤
 OnFailed Failed P = P
 OnFailed Memory P = ⊤
+
+-- a fact, unless the answer is `Failed`
+abbrev pub UnlessFailed : Whole → Type 0 → Type 0
+UnlessFailed (Bytes bytes) P = P
+UnlessFailed TooLarge P = P
+UnlessFailed Failed P = ⊤
+UnlessFailed Memory P = P

@@ -6,21 +6,24 @@
 mod failed;
 mod files;
 mod flag;
+mod laws;
 mod mem_flag;
 mod mem_shelf;
 mod mem_sink;
 mod plan;
 mod shelf;
 mod sink;
-#[cfg(test)]
-mod tests;
 mod whole;
 
 pub use failed::Failed;
 pub use flag::{Flag, NoFlag};
+pub use laws::{shelf_has_an_answer, shelf_has_one_answer};
 pub use mem_flag::MemFlag;
 pub use mem_shelf::MemShelf;
 pub use mem_sink::MemSink;
 pub use shelf::Shelf;
 pub use sink::Sink;
 pub use whole::{Whole, read_whole, write_whole};
+
+#[cfg(test)]
+mod tests;

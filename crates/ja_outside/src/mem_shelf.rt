@@ -113,7 +113,8 @@ impl Shelf for MemShelf {
         requires { IsSome self.old.left }
         ensures answer { is_err result ≡ is_to_fail self.old }
         ensures given { IfOk result
-            (λ n. n ≡ min (min self.old.piece (length buf.new)) (length (unwrap_or self.old.left []))) }
+            (λ n. n ≡ min (min self.old.piece (length buf.new))
+            (length (unwrap_or self.old.left []))) }
         ensures after { self.new ≡ after_call self.old self.new.left }
         ensures selected { IsSome self.new.left }
         ensures ok { IfOk result (λ n. Moves self.old.left self.new.left n buf.new) }
@@ -139,7 +140,8 @@ fn give(file: &[u8], at: usize, piece: usize, buf: &mut [u8]) -> usize
     requires within { at ≤ length file.now }
     requires some { 0 < piece }
     ensures given { result ≡ min (min piece (length buf.new)) (length file.now - at) }
-    ensures moved { Moves (Some (drop at file.now)) (Some (drop (at + result) file.now)) result buf.new }
+    ensures moved { Moves (Some (drop at file.now)) (Some (drop (at + result) file.now))
+        result buf.new }
 {
     let rest = &file[at..];
     let given = piece.min(buf.len()).min(rest.len());

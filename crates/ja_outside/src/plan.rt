@@ -17,7 +17,8 @@ impl Plan {
     pub(crate) fn count_call(&mut self) -> bool
         ensures answer { result ≡ list_any (λ n. n == self.old.calls) self.old.fails.items }
         ensures calls { self.new.calls ≡ next_count self.old.calls }
-        ensures faults { self.new.faults ≡ (if result then next_count self.old.faults else self.old.faults) }
+        ensures faults { self.new.faults
+            ≡ (if result then next_count self.old.faults else self.old.faults) }
         ensures fails { self.new.fails ≡ self.old.fails }
         ensures later { self.old.faults ≤ self.new.faults }
     {

@@ -25,6 +25,7 @@ pub trait Shelf {
         ensures ok { OnOk result (Selects (holds self.old) name.now (left self.new)) }
         ensures failed { OnErr result
             (Rose (faults self.old) (faults self.new) ⊎ Lacks (holds self.old) name.now) }
+        ensures quiet { OnOk result (faults self.new ≡ faults self.old) }
         ensures later { faults self.old ≤ faults self.new };
 
     /// Moves the next bytes to the front of `buf`. What the rest of `buf` then has is not said.
@@ -36,5 +37,6 @@ pub trait Shelf {
         ensures ok { IfOk result (λ n. Moves (left self.old) (left self.new) n buf.new) }
         ensures err { OnErr result (left self.new ≡ left self.old) }
         ensures failed { OnErr result (Rose (faults self.old) (faults self.new)) }
+        ensures quiet { OnOk result (faults self.new ≡ faults self.old) }
         ensures later { faults self.old ≤ faults self.new };
 }

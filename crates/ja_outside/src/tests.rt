@@ -1,9 +1,10 @@
 ghost use Rattle.std.specs.Prelude.{ℕ, ◌<◌, List};
 ghost use Rattle.std.specs.Bool.{OnTrue};
+ghost use Rattle.ja_outside.specs.Flags.{IsPolled, IsFoundRaised};
 ghost use Rattle.ja_outside.specs.Shelf.{IsWhole};
 ghost use Rattle.ja_outside.specs.Sink.{Appends};
 
-use crate::{MemShelf, MemSink, Shelf, Sink, Whole, read_whole, write_whole};
+use crate::{Flag, MemFlag, MemShelf, MemSink, Shelf, Sink, Whole, read_whole, write_whole};
 use std::alloc::{AllocError, Global};
 use std::test::Fail;
 
@@ -101,6 +102,32 @@ fn writes_what_fits(rt: HostRuntime) -> Result<(), Fail> {
         assert_eq!(rt; copied, is_whole, "into {room}");
         assert_eq!(rt; sink.bytes(), &TEXT[..TEXT.len().min(room as usize)]);
         assert_eq!(rt; sink.faults(), u64::from(!is_whole));
+    }
+    Ok(())
+}
+
+/// Polls a flag twice, the second time where the first found it low.
+fn is_raised_soon<F: Flag>(flag: &mut F) -> bool
+    ensures raised { OnTrue result (IsFoundRaised F.may_rise F.raised flag.old flag.new) }
+    ensures flag { IsPolled F.may_rise F.raised flag.old flag.new }
+{
+    flag.poll() || flag.poll()
+}
+
+#[test]
+fn is_raised_from_a_poll_on(rt: HostRuntime) -> Result<(), Fail> {
+    for (after, is_raised) in [
+        (Some(0), true),
+        (Some(1), true),
+        (Some(2), false),
+        (None, false),
+    ] {
+        let mut flag = MemFlag::new(after);
+        assert_eq!(rt;
+            is_raised_soon(&mut flag),
+            is_raised,
+            "raised from poll {after:?} on"
+        );
     }
     Ok(())
 }

@@ -4,7 +4,7 @@ ghost use Rattle.std.specs.Prelude.{◌≡◌, ◌≤◌, ◌⊎◌, length, IsT
 ghost use Rattle.ja_outside.specs.Faults.{Rose};
 ghost use Rattle.ja_outside.specs.Shelf.{IsWhole, IsLonger, TakesOver, TakesWithin, Lacks};
 ghost use Rattle.ja_outside.specs.Sink.{Appends, AppendsPart};
-ghost use Rattle.ja_outside.specs.Whole.{IfBytes, OnTooLarge, MatchTooLarge, OnFailed};
+ghost use Rattle.ja_outside.specs.Whole.{IfBytes, OnTooLarge, MatchTooLarge, OnFailed, UnlessFailed};
 
 use crate::failed::Failed;
 use crate::shelf::Shelf;
@@ -35,6 +35,7 @@ pub fn read_whole<F: Shelf>(alloc: Global, shelf: &mut F, name: &str, limit: u64
         → TakesWithin (F.holds shelf.old) name.now (F.left shelf.new) limit) }
     ensures failed { OnFailed result
         (Rose (F.faults shelf.old) (F.faults shelf.new) ⊎ Lacks (F.holds shelf.old) name.now) }
+    ensures quiet { UnlessFailed result (F.faults shelf.new ≡ F.faults shelf.old) }
     ensures later { F.faults shelf.old ≤ F.faults shelf.new }
 {
     let Ok(()) = shelf.select(name) else {
@@ -63,6 +64,7 @@ pub fn write_whole<K: Sink>(out: &mut K, bytes: &[u8]) -> Result<(), Failed>
     ensures ok { OnOk result (Appends (K.written out.old) (K.written out.new) bytes.now) }
     ensures err { OnErr result (AppendsPart (K.written out.old) (K.written out.new) bytes.now) }
     ensures failed { OnErr result (Rose (K.faults out.old) (K.faults out.new)) }
+    ensures quiet { OnOk result (K.faults out.new ≡ K.faults out.old) }
     ensures later { K.faults out.old ≤ K.faults out.new }
 {
     let mut done = 0;

@@ -42,7 +42,8 @@ unfolding word_at
 word_takes word bytes rest h =
     let some = cond_some (bytes_eq word (take (length word) bytes)) (drop (length word) bytes) rest h in
     let front : word ≡ take (length word) bytes = (bytes_eq-Decides word (take (length word) bytes)).0 some.0 in
-    sym (take-append-drop (length word) bytes) ∙ ap (λ (k : List ℕ). k ++ drop (length word) bytes) (sym front) ∙ ap (λ (k : List ℕ). word ++ k) some.1
+    sym (take-append-drop (length word) bytes) ∙ ap (λ (k : List ℕ). k ++ drop (length word) bytes) (sym front)
+    ∙ ap (λ (k : List ℕ). word ++ k) some.1
 
 pub word_again : (word rest : List ℕ) → word_at word (word ++ rest) ≡ Some rest
 unfolding word_at

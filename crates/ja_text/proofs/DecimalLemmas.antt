@@ -23,4 +23,5 @@ decimal_is_canonical n h =
 
 pub canonical_is_decimal : (text : List ℕ) (n : ℕ) → n < 2 ^ 64 → IsCanonical text n → text ≡ decimal n
 canonical_is_decimal text n h c =
-    sym (decimal-digits_value own text c.number.digits c.number.some (λ e. ap length (c.leading e)) (omega (arith, c.exact))) ∙ ap decimal c.exact
+    sym (decimal-digits_value own text c.number.digits c.number.some (λ e. ap length (c.leading e)) (omega (arith, c.exact)))
+    ∙ ap decimal c.exact

@@ -23,7 +23,9 @@ cut bytes at = cond (ltb at (length bytes)) (Some (take at bytes, drop (at + 1) 
 step : (t : Bool) (b : ℕ) (bs : List ℕ) (n : ℕ) → line_at bs ≡ cut bs n
     → cond t (Some ([], bs)) (option_map (λ l. (b ∷ l.0, l.1)) (line_at bs)) ≡ cut (b ∷ bs) (cond (not t) (1 + n) 0)
 step true b bs n h = let e : ltb 0 (suc (length bs)) ≡ true = grind (arith, nat_tests) in rw e refl
-step false b bs n h = rw (h, one-add, add-one, add-one) (mapped (λ (l : List ℕ × List ℕ). (b ∷ l.0, l.1)) (ltb n (length bs)) (take n bs, drop (suc n) bs) ∙ ap (λ t. cond t (Some (b ∷ take n bs, drop (suc n) bs)) None) (below_suc n (length bs)))
+step false b bs n h = rw (h, one-add, add-one, add-one)
+    (mapped (λ (l : List ℕ × List ℕ). (b ∷ l.0, l.1)) (ltb n (length bs)) (take n bs, drop (suc n) bs)
+    ∙ ap (λ t. cond t (Some (b ∷ take n bs, drop (suc n) bs)) None) (below_suc n (length bs)))
 
 cut_first : (bytes : List ℕ) → line_at bytes ≡ cut bytes (position_or_len is_newline bytes)
 unfolding line_at
@@ -31,18 +33,24 @@ cut_first [] = refl
 cut_first (b ∷ bs) = step (eqb b 10) b bs (position_or_len is_newline bs) (cut_first bs)
 
 -- the line is cut at the first LF
-pub line_at-position : (bytes : List ℕ) → line_at bytes ≡ option_map (λ at. (take at bytes, drop (at + 1) bytes)) (position is_newline bytes)
-line_at-position bytes = cut_first bytes ∙ sym (mapped (λ (at : ℕ). (take at bytes, drop (at + 1) bytes)) (ltb (position_or_len is_newline bytes) (length bytes)) (position_or_len is_newline bytes))
+pub line_at-position : (bytes : List ℕ)
+    → line_at bytes ≡ option_map (λ at. (take at bytes, drop (at + 1) bytes)) (position is_newline bytes)
+line_at-position bytes = cut_first bytes
+    ∙ sym (mapped (λ (at : ℕ). (take at bytes, drop (at + 1) bytes)) (ltb (position_or_len is_newline bytes) (length bytes))
+    (position_or_len is_newline bytes))
 
-line_step : (t : Bool) (b : ℕ) (bs : List ℕ) (o : Option (List ℕ × List ℕ)) (x : List ℕ × List ℕ) → t ≡ eqb b 10 → ((y : List ℕ × List ℕ) → o ≡ Some y → TakesLine bs y.0 y.1)
+line_step : (t : Bool) (b : ℕ) (bs : List ℕ) (o : Option (List ℕ × List ℕ)) (x : List ℕ × List ℕ) → t ≡ eqb b 10
+    → ((y : List ℕ × List ℕ) → o ≡ Some y → TakesLine bs y.0 y.1)
     → cond t (Some ([], bs)) (option_map (λ l. (b ∷ l.0, l.1)) o) ≡ Some x → TakesLine (b ∷ bs) x.0 x.1
 line_step true b bs o x e ih h =
     let same : b ≡ 10 = eqb-true b 10 (sym e) in
-    subst (λ (z : List ℕ × List ℕ). TakesLine (b ∷ bs) z.0 z.1) (same_Some ([], bs) x h) (record { one_line = tt; parts = ap (λ (k : ℕ). k ∷ bs) same })
+    subst (λ (z : List ℕ × List ℕ). TakesLine (b ∷ bs) z.0 z.1) (same_Some ([], bs) x h)
+    (record { one_line = tt; parts = ap (λ (k : ℕ). k ∷ bs) same })
 line_step false b bs None x e ih h = absurd cc
 line_step false b bs (Some y) x e ih h =
     let parts = ih y refl in
-    subst (λ (z : List ℕ × List ℕ). TakesLine (b ∷ bs) z.0 z.1) (same_Some (b ∷ y.0, y.1) x h) (record { one_line = (eqb-false b 10 (sym e), parts.one_line); parts = ap (λ (k : List ℕ). b ∷ k) parts.parts })
+    subst (λ (z : List ℕ × List ℕ). TakesLine (b ∷ bs) z.0 z.1) (same_Some (b ∷ y.0, y.1) x h)
+    (record { one_line = (eqb-false b 10 (sym e), parts.one_line); parts = ap (λ (k : List ℕ). b ∷ k) parts.parts })
 
 pub line_takes : (bytes : List ℕ) (x : List ℕ × List ℕ) → line_at bytes ≡ Some x → TakesLine bytes x.0 x.1
 unfolding line_at
@@ -57,7 +65,8 @@ unfolding line_at
 line_again [] rest h = refl
 line_again (b ∷ bs) rest h = rw (other_byte b h.0, line_again bs rest h.1) refl
 
-line_none_step : (t : Bool) (b : ℕ) (bs : List ℕ) (o : Option (List ℕ × List ℕ)) → t ≡ eqb b 10 → (o ≡ None → IsOneLine bs) → cond {A = Option (List ℕ × List ℕ)} t (Some ([], bs)) (option_map (λ l. (b ∷ l.0, l.1)) o) ≡ None → IsOneLine (b ∷ bs)
+line_none_step : (t : Bool) (b : ℕ) (bs : List ℕ) (o : Option (List ℕ × List ℕ)) → t ≡ eqb b 10 → (o ≡ None → IsOneLine bs)
+    → cond {A = Option (List ℕ × List ℕ)} t (Some ([], bs)) (option_map (λ l. (b ∷ l.0, l.1)) o) ≡ None → IsOneLine (b ∷ bs)
 line_none_step true b bs o e ih h = absurd cc
 line_none_step false b bs None e ih h = (eqb-false b 10 (sym e), ih refl)
 line_none_step false b bs (Some y) e ih h = absurd cc

@@ -58,3 +58,9 @@ digits_at n (b ∷ bs) = if is_digit b then digits_at (saturated (10 * n + (b - 
 unfoldable pub number_at : List ℕ → Option (ℕ × List ℕ)
 number_at [] = None
 number_at (b ∷ bs) = if is_digit b then Some (digits_at 0 (b ∷ bs)) else None
+
+-- a number that was read, where nothing is behind it
+abbrev pub whole_number : Option (ℕ × List ℕ) → Option ℕ
+whole_number None = None
+whole_number (Some (n, [])) = Some n
+whole_number (Some (n, b ∷ bs)) = None

@@ -1,4 +1,4 @@
--- Reading from left to right: one form after another, and the first fault ends it.
+-- Reading from left to right: one form after another, and the first refusal ends it.
 use Rattle.std.specs.Prelude.{◌≡◌, Result, Ok, Err}
 use Rattle.ja_base.specs.declared.memory.OrMemory.{OrMemory}
 use Rattle.ja_base.specs.declared.memory.OrMemory.TheVariants as or_memory

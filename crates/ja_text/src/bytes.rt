@@ -1,7 +1,7 @@
 //! What stands at the front of bytes: a number, a space, an LF, a word, a line. Each answers what it read and what follows.
 
 ghost use Rattle.std.specs.Prelude.{◌≡◌, ◌+◌, ◌<◌, ◌==◌, IfSome, length, option_map, position};
-ghost use Rattle.ja_text.specs.Numbers.{number_at};
+ghost use Rattle.ja_text.specs.Numbers.{number_at, whole_number};
 ghost use Rattle.ja_text.specs.Lines.{space_at, newline_at, word_at, line_at};
 
 /// The number whose digits stand at the front, all of them. A greater one than 2^64 - 1 is answered as that.
@@ -22,6 +22,16 @@ pub fn number(bytes: &[u8]) -> Option<(u64, &[u8])>
         rest = after;
     }
     Some((number, rest))
+}
+
+/// The number that the bytes are, with nothing behind it.
+pub fn whole_number(bytes: &[u8]) -> Option<u64>
+    ensures { result ≡ whole_number (number_at bytes.now) }
+{
+    match number(bytes) {
+        Some((number, [])) => Some(number),
+        _ => None,
+    }
 }
 
 #[tactic(auto, unfolding(crate::specs::Lines::space_at))]

@@ -60,7 +60,8 @@ impl<'a> Cursor<'a> {
     pub fn number(&mut self) -> Result<u64, Bad>
         ensures ok { IfOk result (λ n. number_at self.old.rest ≡ Some (n, self.new.rest)) }
         ensures moved { OnOk result (Moves self.old self.new) }
-        ensures bad { IfErr result (λ bad. (number_at self.old.rest ≡ None) × (bad.at ≡ self.old.at)) }
+        ensures bad { IfErr result
+            (λ bad. (number_at self.old.rest ≡ None) × (bad.at ≡ self.old.at)) }
         ensures stays { OnErr result (self.new ≡ self.old) }
     {
         match bytes::number(self.rest) {
@@ -75,7 +76,8 @@ impl<'a> Cursor<'a> {
     pub fn space(&mut self) -> Result<(), Bad>
         ensures ok { OnOk result (space_at self.old.rest ≡ Some self.new.rest) }
         ensures moved { OnOk result (Moves self.old self.new) }
-        ensures bad { IfErr result (λ bad. (space_at self.old.rest ≡ None) × (bad.at ≡ self.old.at)) }
+        ensures bad { IfErr result
+            (λ bad. (space_at self.old.rest ≡ None) × (bad.at ≡ self.old.at)) }
         ensures stays { OnErr result (self.new ≡ self.old) }
     {
         match bytes::space(self.rest) {
@@ -90,7 +92,8 @@ impl<'a> Cursor<'a> {
     pub fn newline(&mut self) -> Result<(), Bad>
         ensures ok { OnOk result (newline_at self.old.rest ≡ Some self.new.rest) }
         ensures moved { OnOk result (Moves self.old self.new) }
-        ensures bad { IfErr result (λ bad. (newline_at self.old.rest ≡ None) × (bad.at ≡ self.old.at)) }
+        ensures bad { IfErr result
+            (λ bad. (newline_at self.old.rest ≡ None) × (bad.at ≡ self.old.at)) }
         ensures stays { OnErr result (self.new ≡ self.old) }
     {
         match bytes::newline(self.rest) {
@@ -106,7 +109,8 @@ impl<'a> Cursor<'a> {
     pub fn line(&mut self) -> Result<&'a [u8], Bad>
         ensures ok { IfOk result (λ line. line_at self.old.rest ≡ Some (line.now, self.new.rest)) }
         ensures moved { OnOk result (Moves self.old self.new) }
-        ensures bad { IfErr result (λ bad. (line_at self.old.rest ≡ None) × (bad.at ≡ self.old.at)) }
+        ensures bad { IfErr result
+            (λ bad. (line_at self.old.rest ≡ None) × (bad.at ≡ self.old.at)) }
         ensures stays { OnErr result (self.new ≡ self.old) }
     {
         match bytes::line(self.rest) {

@@ -21,7 +21,8 @@ impl Model for Numbers {
 
     ghost view = { λ a. take a.count a.places };
 
-    ghost invariant = { λ a. (0 < a.count) × (a.count ≤ 9) × (a.places ≡ padded (take a.count a.places)) };
+    ghost invariant = { λ a.
+        (0 < a.count) × (a.count ≤ 9) × (a.places ≡ padded (take a.count a.places)) };
 
     ghost inverse = { λ ns. record { places = padded ns; count = length ns } };
 

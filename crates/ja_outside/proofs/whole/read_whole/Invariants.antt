@@ -11,7 +11,7 @@ invariant-loop-bytes g l =
       selected : IsTrue (shelf.is_selected l.shelf);
       taken : IsTaken (shelf.holds l.fn.shelf) l.name l.bytes.items (shelf.left l.shelf);
       within : length l.bytes.items ≤ l.limit;
-      later : shelf.faults l.fn.shelf ≤ shelf.faults l.shelf;
+      quiet : shelf.faults l.shelf ≡ shelf.faults l.fn.shelf;
     }
 
 abbrev pub decreases-loop-bytes : goal.decreases-loop-bytes

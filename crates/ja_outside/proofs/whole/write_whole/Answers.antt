@@ -1,4 +1,4 @@
-use Rattle.std.proofs.Common.{length-drop, arith}
+use Rattle.std.proofs.Common.{length-drop, arith, ◌∙◌}
 use Rattle.std.proofs.lemmas.List.{take_rest}
 use Rattle.ja_outside.proofs.Pieces.{Appends-more}
 use Rattle.ja_outside.proofs.whole.write_whole.Goals as goal
@@ -12,5 +12,5 @@ loop-done-preserved g c =
     record {
       within = omega arith;
       written = Appends-more _ _ _ _ _ _ c.loop-done.invariant.written ok;
-      later = omega (arith, c.loop-done.invariant.later, c.in_ok-done.ensures.later);
+      quiet = c.in_ok-done.ensures.quiet ∙ c.loop-done.invariant.quiet;
     }

@@ -1,4 +1,4 @@
-use Rattle.std.proofs.Common.{◌-◌, ◌≤◌, length, take}
+use Rattle.std.proofs.Common.{◌≡◌, ◌-◌, ◌≤◌, length, take}
 use Rattle.ja_outside.specs.Sink.{Appends}
 use Rattle.ja_outside.proofs.whole.write_whole.Given as goal
 
@@ -9,7 +9,7 @@ invariant-loop-done g l =
     record {
       within : l.done ≤ length l.bytes;
       written : Appends (sink.written l.fn.out) (sink.written l.out) (take l.done l.bytes);
-      later : sink.faults l.fn.out ≤ sink.faults l.out;
+      quiet : sink.faults l.out ≡ sink.faults l.fn.out;
     }
 
 abbrev pub decreases-loop-done : goal.decreases-loop-done

@@ -6,7 +6,9 @@ use Rattle.ja_text.proofs.numbers.row.Goals as goal
 pub returns-in_err-next-clause-read : goal.returns-in_err-next-clause-read
 returns-in_err-next-clause-read c =
     let l = c.loop-place in
-    rw c.from_residual.ensures (row_lacks_number (take l.place l.places) l.place l.rest.now (row_at 9 c.args.bytes.now) c.loop-place-test.true c.in_err-next.ensures.read l.invariant.so_far)
+    rw c.from_residual.ensures
+    (row_lacks_number (take l.place l.places) l.place l.rest.now
+    (row_at 9 c.args.bytes.now) c.loop-place-test.true c.in_err-next.ensures.read l.invariant.so_far)
 
 pub invariant_of-result : goal.invariant_of-result
 invariant_of-result c =
@@ -17,13 +19,15 @@ pub returns-in-Some-clause-read : goal.returns-in-Some-clause-read
 returns-in-Some-clause-read c =
     let l = c.loop-place in
     rw (front_more l.place l.places c.in_ok-next.next c.loop-place-test.true l.invariant.holds)
-    (row_ends (take l.place l.places) l.place l.rest.now c.in_ok-next.next c.in_ok-next.after.now c.in-Some.end.now (row_at 9 c.args.bytes.now) c.loop-place-test.true c.in_ok-next.ensures.read c.in-Some.ensures.read l.invariant.so_far)
+    (row_ends (take l.place l.places) l.place l.rest.now c.in_ok-next.next c.in_ok-next.after.now c.in-Some.end.now
+    (row_at 9 c.args.bytes.now) c.loop-place-test.true c.in_ok-next.ensures.read c.in-Some.ensures.read l.invariant.so_far)
 
 pub returns-in_err-rest-clause-read : goal.returns-in_err-rest-clause-read
 returns-in_err-rest-clause-read c =
     let l = c.loop-place in
     rw c.from_residual-in_err-rest.ensures
-    (row_lacks_end (take l.place l.places) l.place l.rest.now c.in_ok-next.next c.in_ok-next.after.now (row_at 9 c.args.bytes.now) c.loop-place-test.true c.in_ok-next.ensures.read c.in_default.ensures.read c.in_err-rest.ensures.read l.invariant.so_far)
+    (row_lacks_end (take l.place l.places) l.place l.rest.now c.in_ok-next.next c.in_ok-next.after.now
+    (row_at 9 c.args.bytes.now) c.loop-place-test.true c.in_ok-next.ensures.read c.in_default.ensures.read c.in_err-rest.ensures.read l.invariant.so_far)
 
 pub loop-place-preserved : goal.loop-place-preserved
 loop-place-preserved c =
@@ -31,7 +35,8 @@ loop-place-preserved c =
     record {
       holds = holds_more l.place l.places c.in_ok-next.next c.loop-place-test.true l.invariant.holds;
       so_far = rw (front_more l.place l.places c.in_ok-next.next c.loop-place-test.true l.invariant.holds)
-          (row_goes_on (take l.place l.places) l.place l.rest.now c.in_ok-next.next c.in_ok-next.after.now c.in_ok-rest.rest.now (row_at 9 c.args.bytes.now) c.loop-place-test.true c.in_ok-next.ensures.read c.in_ok-rest.ensures.read l.invariant.so_far);
+          (row_goes_on (take l.place l.places) l.place l.rest.now c.in_ok-next.next c.in_ok-next.after.now c.in_ok-rest.rest.now
+          (row_at 9 c.args.bytes.now) c.loop-place-test.true c.in_ok-next.ensures.read c.in_ok-rest.ensures.read l.invariant.so_far);
       shorter = omega (arith, c.in_ok-next.ensures.shorter, c.in_ok-rest.ensures.shorter);
     }
 
