@@ -30,7 +30,8 @@ slice_get_mapped f xs k x e = slice_get-map f xs k ∙ ap (option_map f) e
 any_mapped : {A B : Type 0} (p : B → Bool) (f : A → B) (xs : List A) (k : ℕ) (x : A) → slice_get xs k ≡ Some x → p (f x) ≡ true
     → list_any p (map f xs) ≡ true
 any_mapped p f xs k x e h =
-    list_any_at p (map f xs) k (f x) (omega (arith, length-map xs f, slice_get_within xs k x e)) (ap p (map_at f xs k x (f x) e) ∙ h)
+    list_any_at p (map f xs) k (f x) (omega (arith, length-map xs f, slice_get_within xs k x e))
+    (ap p (map_at f xs k x (f x) e) ∙ h)
 
 -- the gate of this variable, with its place
 pub record HasGate (gates : List AndGate) (u : ℕ) (rights : ℕ × ℕ) : Type 0 where
@@ -45,7 +46,14 @@ first_or_later : (g : AndGate) (gates : List AndGate) (u : ℕ) (rights : ℕ ×
     → cond b (Some (g.rhs0, g.rhs1)) (finite_map.find nat_cmp u (map entry_of gates)) ≡ Some rights
     → (finite_map.find nat_cmp u (map entry_of gates) ≡ Some rights → HasGate gates u rights) → HasGate (g ∷ gates) u rights
 first_or_later g gates u rights true is found rest =
-    record { place = 0; gate = g; is = refl; var = sym (eqb-true u (gate_var g) is); rights_are = same_Some (g.rhs0, g.rhs1) rights found }
+    record {
+      place = 0;
+      gate = g;
+      is = refl;
+      var = sym (eqb-true u (gate_var g) is);
+      rights_are = same_Some
+          (g.rhs0, g.rhs1) rights found;
+    }
 first_or_later g gates u rights false is found rest =
     let h = rest found in record { place = suc h.place; gate = h.gate; is = h.is; var = h.var; rights_are = h.rights_are }
 
@@ -54,11 +62,13 @@ has_entry : (gates : List AndGate) (u : ℕ) (rights : ℕ × ℕ) → finite_ma
 has_entry [] u rights e = absurd (cc)
 has_entry (g ∷ gates) u rights e =
     first_or_later g gates u rights (u == gate_var g) refl
-    (ap (λ b. cond b (Some (g.rhs0, g.rhs1)) (finite_map.find nat_cmp u (map entry_of gates))) (sym (unsigned_tied u (gate_var g))) ∙ e)
+    (ap (λ b. cond b (Some (g.rhs0, g.rhs1)) (finite_map.find nat_cmp u (map entry_of gates)))
+    (sym (unsigned_tied u (gate_var g))) ∙ e)
     (has_entry gates u rights)
 
 -- each right side of the circuit is that of a gate of the list
-pub has_gate : (n : Netlist) (u : ℕ) (rights : ℕ × ℕ) → finite_map.get (circuit n).gates u ≡ Some rights → HasGate n.gates u rights
+pub has_gate : (n : Netlist) (u : ℕ) (rights : ℕ × ℕ) → finite_map.get (circuit n).gates u ≡ Some rights
+    → HasGate n.gates u rights
 has_gate n u rights e = has_entry n.gates u rights (sym (finite_map.get-from_entries nat_cmp_total (map entry_of n.gates) u) ∙ e)
 
 first_is_some : (b : Bool) (x : ℕ × ℕ) (o : Option (ℕ × ℕ)) → b ≡ true → is_some (cond b (Some x) o) ≡ true
@@ -91,7 +101,8 @@ free_from_undefined n u undefined =
     let parts = or_parts (ins || las) (is_some (finite_map.get (circuit n).gates u)) undefined in
     let lists = or_parts ins las parts.0 in
     record {
-      no_input = λ k h same. both_ways ins lists.0 (list_any_at (λ v. u == v) (input_vars n) k 0 (omega (arith, length-map n.inputs variable))
+      no_input = λ k h same. both_ways ins lists.0
+          (list_any_at (λ v. u == v) (input_vars n) k 0 (omega (arith, length-map n.inputs variable))
           (eq-eqb u (get_or (input_vars n) k 0) (sym same)));
       no_latch = λ k h same. let item = item_at n.latches k h in
           both_ways las lists.1 (any_mapped (λ (l : plain.Latch). u == l.var) latch_of n.latches k item.0 item.1
@@ -104,7 +115,8 @@ free_from_undefined n u undefined =
 pub found_in : {A : Type 0} (p : A → Bool) (xs : List A) → list_any p xs ≡ true
     → (k : ℕ) × (x : A) × (slice_get xs k ≡ Some x) × (p x ≡ true)
 found_in p [] h = absurd (cc)
-found_in p (x ∷ xs) h = ⊎_elim (λ t. (0, x, refl, t)) (λ t. let r = found_in p xs t in (suc r.0, r.1, r.2, r.3)) (or_cases (p x) (list_any p xs) h)
+found_in p (x ∷ xs) h = ⊎_elim (λ t. (0, x, refl, t)) (λ t. let r = found_in p xs t in (suc r.0, r.1, r.2, r.3))
+    (or_cases (p x) (list_any p xs) h)
 
 pub some_value : {A : Type 0} (o : Option A) → is_some o ≡ true → (x : A) × (o ≡ Some x)
 some_value None h = absurd (cc)
@@ -118,7 +130,8 @@ undefined_from_free n u free =
     (false_from_ne_true (list_any (λ v. u == v) (circuit n).inputs) (λ t. no_input (found_in (λ v. u == v) (circuit n).inputs t)))
     (false_from_ne_true (list_any (λ (l : plain.Latch). u == l.var) (circuit n).latches)
     (λ t. no_latch (found_in (λ (l : plain.Latch). u == l.var) (circuit n).latches t))))
-    (false_from_ne_true (is_some (finite_map.get (circuit n).gates u)) (λ t. no_gate (some_value (finite_map.get (circuit n).gates u) t)))
+    (false_from_ne_true (is_some (finite_map.get (circuit n).gates u))
+    (λ t. no_gate (some_value (finite_map.get (circuit n).gates u) t)))
   where
     no_input : (k : ℕ) × (x : ℕ) × (slice_get (circuit n).inputs k ≡ Some x) × ((u == x) ≡ true) → ⊥
     no_input r = free.no_input r.0 (omega (arith, slice_get_within (circuit n).inputs r.0 r.1 r.2, length-map n.inputs variable))
@@ -126,10 +139,13 @@ undefined_from_free n u free =
 
     no_latch : (k : ℕ) × (x : plain.Latch) × (slice_get (circuit n).latches k ≡ Some x) × ((u == x.var) ≡ true) → ⊥
     no_latch r =
-        let within : r.0 < length n.latches = omega (arith, slice_get_within (circuit n).latches r.0 r.1 r.2, length-map n.latches latch_of) in
+        let within : r.0 < length n.latches = omega
+        (arith, slice_get_within (circuit n).latches r.0 r.1 r.2, length-map n.latches latch_of) in
         let item = item_at n.latches r.0 within in
         let same = same_Some (latch_of item.0) r.1 (sym (slice_get_mapped latch_of n.latches r.0 item.0 item.1) ∙ r.2) in
-        free.no_latch r.0 within (map_at latch_var n.latches r.0 item.0 0 item.1 ∙ ap (λ (l : plain.Latch). l.var) same ∙ sym (eqb-true u r.1.var r.3))
+        free.no_latch r.0 within (map_at latch_var n.latches r.0 item.0 0 item.1 ∙ ap (λ (l : plain.Latch). l.var) same
+        ∙ sym (eqb-true u r.1.var r.3))
 
     no_gate : (x : ℕ × ℕ) × (finite_map.get (circuit n).gates u ≡ Some x) → ⊥
-    no_gate r = let h = has_gate n u r.0 r.1 in free.no_gate h.place h.gate (slice_get_within n.gates h.place h.gate h.is) h.is h.var
+    no_gate r = let h = has_gate n u r.0 r.1 in free.no_gate h.place h.gate
+        (slice_get_within n.gates h.place h.gate h.is) h.is h.var

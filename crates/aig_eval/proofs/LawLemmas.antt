@@ -18,7 +18,8 @@ module _ (c : Circuit) (acyclic : IsAcyclic c) (state input v w : List Bool)
     (a : IsValuation c state input v) (b : IsValuation c state input w) where
   same_input : (k u : ℕ) → slice_get c.inputs k ≡ Some u → bit v u ≡ bit w u
   same_input k u e =
-      sym (map_at (bit v) c.inputs k u false e) ∙ ap (λ r. get_or r k false) (a.inputs ∙ sym b.inputs) ∙ map_at (bit w) c.inputs k u false e
+      sym (map_at (bit v) c.inputs k u false e) ∙ ap (λ r. get_or r k false) (a.inputs ∙ sym b.inputs)
+      ∙ map_at (bit w) c.inputs k u false e
 
   same_latch : (k : ℕ) (l : Latch) → slice_get c.latches k ≡ Some l → bit v l.var ≡ bit w l.var
   same_latch k l e =
@@ -30,7 +31,8 @@ module _ (c : Circuit) (acyclic : IsAcyclic c) (state input v w : List Bool)
   same_gate g rights e below =
       let rises = acyclic.rises g rights e in
       a.gates g rights e
-      ∙ ap₂ (λ x y. x && y) (ap (with_sign rights.0) (below (variable rights.0) rises.0)) (ap (with_sign rights.1) (below (variable rights.1) rises.1))
+      ∙ ap₂ (λ x y. x && y) (ap (with_sign rights.0) (below (variable rights.0) rises.0))
+      (ap (with_sign rights.1) (below (variable rights.1) rises.1))
       ∙ sym (b.gates g rights e)
 
   -- variables that are lower agree, so this one does
@@ -45,7 +47,8 @@ module _ (c : Circuit) (acyclic : IsAcyclic c) (state input v w : List Bool)
       let same = eqb-true u r.1.var r.3 in ap (bit v) same ∙ same_latch r.0 r.1 r.2 ∙ ap (bit w) (sym same))
       (or_cases (list_any (λ x. u == x) c.inputs) (list_any (λ (l : Latch). u == l.var) c.latches) listed))
       (λ t. let r = some_value (finite_map.get c.gates u) t in same_gate u r.0 r.1 below)
-      (or_cases (list_any (λ x. u == x) c.inputs || list_any (λ (l : Latch). u == l.var) c.latches) (is_some (finite_map.get c.gates u)) defined))
+      (or_cases (list_any (λ x. u == x) c.inputs || list_any (λ (l : Latch). u == l.var) c.latches)
+      (is_some (finite_map.get c.gates u)) defined))
       (λ undefined. a.rest u undefined ∙ sym (b.rest u undefined))
       (cases_Bool (is_defined c u))
 
@@ -59,7 +62,8 @@ module _ (c : Circuit) (acyclic : IsAcyclic c) (state input v w : List Bool)
 -- all bits of a row of zeros are 0, and so are those past its end
 pub bit-zeros : (m u : ℕ) → bit (replicate m false) u ≡ false
 bit-zeros m u =
-    ⊎_elim (λ h. get_or-replicate m u false false h) (λ h. get_or_past (replicate m false) u false (omega (arith, length-replicate m false))) (cases_lt u m)
+    ⊎_elim (λ h. get_or-replicate m u false false h)
+    (λ h. get_or_past (replicate m false) u false (omega (arith, length-replicate m false))) (cases_lt u m)
 
 pub zeros_are_clear : (c : Circuit) → IsClear c (replicate (c.vars + 1) false)
 zeros_are_clear c = record { width = length-replicate (c.vars + 1) false; rest = λ u h. bit-zeros (c.vars + 1) u }
@@ -70,8 +74,11 @@ puts_exist vars bits old apart fit zero h = (old, Puts-none vars bits old)
 puts_exist vars bits old apart fit (suc m) h =
     let r = puts_exist vars bits old apart fit m (omega arith) in
     let within : m < length vars = omega arith in
-    let next = Puts-more vars bits m (get_or vars m 0) (bit bits m) old r.0 apart within refl refl (fit m within) r.1 in
-    (set r.0 (get_or vars m 0) (bit bits m), subst (λ j. Puts vars bits j old (set r.0 (get_or vars m 0) (bit bits m))) (add-one m) next)
+    let next = Puts-more vars bits m (get_or vars m 0) (bit bits m) old r.0 apart within refl refl (fit m within) r.1 in (
+      set r.0 (get_or vars m 0) (bit bits m),
+      subst (λ j. Puts vars bits j old (set r.0 (get_or vars m 0) (bit bits m)))
+          (add-one m) next,
+    )
 
 gates_exist : (n : Netlist) → IsSound n → HasOwnVars n → (old : List Bool) → length old ≡ n.vars + 1
     → (m : ℕ) → m ≤ length n.gates → (new : List Bool) × PutsGates n.gates m old new
@@ -98,7 +105,12 @@ latches_exist : (n : Netlist) (state old : List Bool) → IsSound n → HasOwnVa
 latches_exist n state old sound own width =
     puts_exist (latch_vars n) state old own.latches
     (λ k h. let item = item_at n.latches k (omega (arith, length-map n.latches latch_var)) in
-    omega (arith, map_at latch_var n.latches k item.0 0 item.1, new_is_within n.vars item.0.lit (sound.latches k item.0 item.1).lit))
+    omega (
+      arith,
+      map_at latch_var n.latches k item.0 0 item.1,
+      new_is_within n.vars item.0.lit
+          (sound.latches k item.0 item.1).lit,
+    ))
     (length n.latches) (omega (arith, length-map n.latches latch_var))
 
 pub valuation_exists : (n : Netlist) (state input : List Bool) → IsSound n → length state ≡ length n.latches
@@ -109,5 +121,6 @@ valuation_exists n state input sound state_width input_width =
     let clear = zeros_are_clear (circuit n) in
     let ins = inputs_exist n input v0 sound own clear.width in
     let las = latches_exist n state ins.0 sound own (omega (arith, ins.1.width, clear.width)) in
-    let gas = gates_exist n sound own las.0 (omega (arith, las.1.width, ins.1.width, clear.width)) (length n.gates) (omega arith) in
+    let gas = gates_exist n sound own las.0 (omega (arith, las.1.width, ins.1.width, clear.width)) (length n.gates)
+    (omega arith) in
     (gas.0, valuation n sound own state input v0 ins.0 las.0 gas.0 state_width input_width ins.1 las.1 gas.1 clear)

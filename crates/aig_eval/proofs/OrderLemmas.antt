@@ -29,7 +29,8 @@ height_before n k u [] before = omega arith
 height_before n zero u (g ∷ gates) before = omega (arith, height_without n u (g ∷ gates) before)
 height_before n (suc k) u (g ∷ gates) before =
     let rest = height_before (suc n) k u gates (λ j g' h e. before (suc j) g' (omega arith) e) in
-    cond_both (variable u == gate_var g) (suc n) (height_from (suc n) gates (variable u)) (λ m. m ≤ n + suc k) (λ t. omega arith) (λ f. omega arith)
+    cond_both (variable u == gate_var g) (suc n) (height_from (suc n) gates (variable u)) (λ m. m ≤ n + suc k) (λ t. omega arith)
+    (λ f. omega arith)
 
 height_at : (n k : ℕ) (g : AndGate) (gates : List AndGate) → slice_get gates k ≡ Some g
     → ((j : ℕ) (h : AndGate) → j < k → slice_get gates j ≡ Some h → gate_var h ≡ gate_var g → ⊥)
@@ -37,11 +38,13 @@ height_at : (n k : ℕ) (g : AndGate) (gates : List AndGate) → slice_get gates
 unfolding height_from
 height_at n k g [] e apart = absurd (cc)
 height_at n zero g (x ∷ gates) e apart =
-    cond-true (gate_var g == gate_var x) (suc n) (height_from (suc n) gates (gate_var g)) (eq-eqb (gate_var g) (gate_var x) (ap gate_var (sym (same_Some x g e))))
+    cond-true (gate_var g == gate_var x) (suc n) (height_from (suc n) gates (gate_var g))
+    (eq-eqb (gate_var g) (gate_var x) (ap gate_var (sym (same_Some x g e))))
     ∙ omega arith
 height_at n (suc k) g (x ∷ gates) e apart =
     cond-false (gate_var g == gate_var x) (suc n) (height_from (suc n) gates (gate_var g))
-    (false_from_ne_true (gate_var g == gate_var x) (λ t. apart 0 x (omega arith) refl (sym (eqb-true (gate_var g) (gate_var x) t))))
+    (false_from_ne_true (gate_var g == gate_var x)
+    (λ t. apart 0 x (omega arith) refl (sym (eqb-true (gate_var g) (gate_var x) t))))
     ∙ height_at (suc n) k g gates e (λ j h l at. apart (suc j) h (omega arith) at)
     ∙ omega arith
 
@@ -49,14 +52,19 @@ pub sound_is_acyclic : (n : Netlist) → IsSound n → IsAcyclic (circuit n)
 sound_is_acyclic n sound = record { height = height_from 0 n.gates; rises = λ u rights e. rises u rights (has_gate n u rights e) }
   where
     rises : (u : ℕ) (rights : ℕ × ℕ) → HasGate n.gates u rights
-        → (height_from 0 n.gates (variable rights.0) < height_from 0 n.gates u) × (height_from 0 n.gates (variable rights.1) < height_from 0 n.gates u)
+        → (height_from 0 n.gates (variable rights.0) < height_from 0 n.gates u) ×
+        (height_from 0 n.gates (variable rights.1) < height_from 0 n.gates u)
     rises u rights h =
         let own = own_vars n sound in
         let place = h.place in
-        let within : place < length (map gate_var n.gates) = omega (arith, length-map n.gates gate_var, slice_get_within n.gates place h.gate h.is) in
+        let within : place < length (map gate_var n.gates) = omega
+        (arith, length-map n.gates gate_var, slice_get_within n.gates place h.gate h.is) in
         let at : height_from 0 n.gates (gate_var h.gate) ≡ suc (0 + place) = height_at 0 place h.gate n.gates h.is
-        (λ j g l e same. own.gates j place l within (map_at gate_var n.gates j g 0 e ∙ same ∙ sym (map_at gate_var n.gates place h.gate 0 h.is))) in
+        (λ j g l e same. own.gates j place l within (map_at gate_var n.gates j g 0 e ∙ same
+        ∙ sym (map_at gate_var n.gates place h.gate 0 h.is))) in
         let low0 = height_before 0 place h.gate.rhs0 n.gates (sound.gates place h.gate h.is).before0 in
         let low1 = height_before 0 place h.gate.rhs1 n.gates (sound.gates place h.gate h.is).before1 in
-        let for_var = λ (r : ℕ × ℕ) (w : ℕ). (height_from 0 n.gates (variable r.0) < height_from 0 n.gates w) × (height_from 0 n.gates (variable r.1) < height_from 0 n.gates w) in
-        subst (for_var rights) h.var (subst (λ r. for_var r (gate_var h.gate)) h.rights_are (omega (arith, at, low0), omega (arith, at, low1)))
+        let for_var = λ (r : ℕ × ℕ) (w : ℕ). (height_from 0 n.gates (variable r.0) < height_from 0 n.gates w) ×
+        (height_from 0 n.gates (variable r.1) < height_from 0 n.gates w) in
+        subst (for_var rights) h.var
+        (subst (λ r. for_var r (gate_var h.gate)) h.rights_are (omega (arith, at, low0), omega (arith, at, low1)))

@@ -22,7 +22,8 @@ Puts-more vars bits n v b old new apart within is is_bit fits p =
     record {
       width = length-set new v b ∙ p.width;
       put = below_more (λ k. bit (set new v b) (get_or vars k 0) ≡ bit bits k) n kept here;
-      others = λ u h. get_or-set_other new v u b false (λ e. h n (omega arith) (is ∙ sym e)) ∙ p.others u (λ k l. h k (omega arith));
+      others = λ u h. get_or-set_other new v u b false (λ e. h n (omega arith) (is ∙ sym e))
+          ∙ p.others u (λ k l. h k (omega arith));
     }
 
 pub value-set_other : (row : List Bool) (v l : ℕ) (b : Bool) → (variable l ≡ v → ⊥) → value (set row v b) l ≡ value row l
@@ -35,26 +36,33 @@ module _ (n : Netlist) (sound : IsSound n) (own : HasOwnVars n) (at : ℕ) (gate
     (is : slice_get n.gates at ≡ Some gate) (old new : List Bool) (b : Bool) where
   -- a gate that is not later keeps its equation
   keeps_gate : (k : ℕ) (g : AndGate) → k ≤ at → slice_get n.gates k ≡ Some g
-      → (value (set new (gate_var gate) b) g.rhs0 && value (set new (gate_var gate) b) g.rhs1) ≡ (value new g.rhs0 && value new g.rhs1)
+      → (value (set new (gate_var gate) b) g.rhs0 && value (set new (gate_var gate) b) g.rhs1) ≡
+      (value new g.rhs0 && value new g.rhs1)
   keeps_gate k g h e =
       ap₂ (λ x y. x && y)
       (value-set_other new (gate_var gate) g.rhs0 b ((sound.gates k g e).before0 at gate h is))
       (value-set_other new (gate_var gate) g.rhs1 b ((sound.gates k g e).before1 at gate h is))
 
-  pub PutsGates-more : gate_var gate < length old → b ≡ (value new gate.rhs0 && value new gate.rhs1) → PutsGates n.gates at old new
+  pub PutsGates-more : gate_var gate < length old → b ≡ (value new gate.rhs0 && value new gate.rhs1)
+      → PutsGates n.gates at old new
       → PutsGates n.gates (at + 1) old (set new (gate_var gate) b)
   PutsGates-more fits is_b p =
       let row = set new (gate_var gate) b in
       let within : at < length (gate_vars n) = omega (arith, length-map n.gates gate_var, slice_get_within n.gates at gate is) in
       let apart : (k : ℕ) (g : AndGate) → k < at → slice_get n.gates k ≡ Some g → gate_var g ≡ gate_var gate → ⊥
-      = λ k g h e same. own.gates k at h within (map_at gate_var n.gates k g 0 e ∙ same ∙ sym (map_at gate_var n.gates at gate 0 is)) in
-      let kept : (k : ℕ) → k < at → (g : AndGate) → slice_get n.gates k ≡ Some g → bit row (gate_var g) ≡ (value row g.rhs0 && value row g.rhs1)
-      = λ k h g e. get_or-set_other new (gate_var gate) (gate_var g) b false (apart k g h e) ∙ p.put k g h e ∙ sym (keeps_gate k g (omega arith) e) in
+      = λ k g h e same. own.gates k at h within (map_at gate_var n.gates k g 0 e ∙ same
+      ∙ sym (map_at gate_var n.gates at gate 0 is)) in
+      let kept : (k : ℕ) → k < at → (g : AndGate) → slice_get n.gates k ≡ Some g
+      → bit row (gate_var g) ≡ (value row g.rhs0 && value row g.rhs1)
+      = λ k h g e. get_or-set_other new (gate_var gate) (gate_var g) b false (apart k g h e) ∙ p.put k g h e
+      ∙ sym (keeps_gate k g (omega arith) e) in
       let own_value : bit row (gate_var gate) ≡ (value row gate.rhs0 && value row gate.rhs1)
       = get_or-set_same new (gate_var gate) b false (omega (arith, p.width)) ∙ is_b ∙ sym (keeps_gate at gate (le_refl at) is) in
       let here : (g : AndGate) → slice_get n.gates at ≡ Some g → bit row (gate_var g) ≡ (value row g.rhs0 && value row g.rhs1)
-      = λ g e. subst (λ x. bit row (gate_var x) ≡ (value row x.rhs0 && value row x.rhs1)) (same_Some gate g (sym is ∙ e)) own_value in
-      let all = below_more (λ k. (g : AndGate) → slice_get n.gates k ≡ Some g → bit row (gate_var g) ≡ (value row g.rhs0 && value row g.rhs1)) at kept here in
+      = λ g e. subst (λ x. bit row (gate_var x) ≡ (value row x.rhs0 && value row x.rhs1)) (same_Some gate g (sym is
+      ∙ e)) own_value in
+      let all = below_more (λ k. (g : AndGate) → slice_get n.gates k ≡ Some g
+      → bit row (gate_var g) ≡ (value row g.rhs0 && value row g.rhs1)) at kept here in
       record {
         width = length-set new (gate_var gate) b ∙ p.width;
         put = λ k g h e. all k h g e;

@@ -34,5 +34,6 @@ pub record PutsGates (gates : List AndGate) (n : ℕ) (old new : List Bool) : Ty
   pub width : length new ≡ length old
   pub put : (k : ℕ) (gate : AndGate) → k < n → slice_get gates k ≡ Some gate
       → bit new (gate_var gate) ≡ (value new gate.rhs0 && value new gate.rhs1)
-  pub others : (u : ℕ) → ((k : ℕ) (gate : AndGate) → k < n → slice_get gates k ≡ Some gate → gate_var gate ≢ u)
+  pub others : (u : ℕ)
+      → ((k : ℕ) (gate : AndGate) → k < n → slice_get gates k ≡ Some gate → gate_var gate ≢ u)
       → bit new u ≡ bit old u

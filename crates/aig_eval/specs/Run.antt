@@ -21,6 +21,7 @@ state_after c state [] = state
 state_after c state (v ∷ vs) = state_after c (next_state c v) vs
 
 -- these steps are the run of these input rows from the first latch row, and this latch row comes next
-pub record RunsTo (c : Circuit) (first : List Bool) (inputs steps : List (List Bool)) (state : List Bool) : Type 0 where
+pub record RunsTo (c : Circuit) (first : List Bool) (inputs steps : List (List Bool))
+    (state : List Bool) : Type 0 where
   pub run : IsRun c first inputs steps
   pub next : state_after c first steps ≡ state

@@ -8,7 +8,8 @@ ghost use Rattle.aig_model.specs.Netlist.{Netlist, circuit, IsSound};
 /// A sound design has a valuation for each latch row and input row of its widths.
 pub fn valuation_exists()
     ensures { (n : Netlist) (state input : List Bool) → IsSound n → length state ≡ length n.latches
-        → length input ≡ length n.inputs → (values : List Bool) × IsValuation (circuit n) state input values }
+        → length input ≡ length n.inputs
+        → (values : List Bool) × IsValuation (circuit n) state input values }
 {}
 
 /// An acyclic circuit has at most one.
@@ -18,6 +19,6 @@ pub fn valuations_agree()
 
 /// A sound design has at most one.
 pub fn valuation_is_unique()
-    ensures { (n : Netlist) (state input v w : List Bool) → IsSound n → IsValuation (circuit n) state input v
-        → IsValuation (circuit n) state input w → v ≡ w }
+    ensures { (n : Netlist) (state input v w : List Bool) → IsSound n
+        → IsValuation (circuit n) state input v → IsValuation (circuit n) state input w → v ≡ w }
 {}

@@ -2,10 +2,12 @@
 //! `Runs`; what contracts see of a `Runner` is in `specs/Run`.
 #![tactic(auto)]
 
+mod filling;
 mod laws;
 mod runner;
 mod step;
 
+pub use filling::fill;
 pub use laws::{valuation_exists, valuation_is_unique, valuations_agree};
 pub use runner::Runner;
 pub use step::{lit_of, next_into, step_into};

@@ -31,7 +31,10 @@ impl Runner {
     /// The run that begins with this latch row.
     pub fn start(alloc: Global, d: &Design, first: &Row) -> Result<Runner, Memory>
         requires { length first.now ≡ length d.now.latches }
-        ensures start { IfOk result (λ r. r ≡ record { state = first.now; values = replicate (d.now.vars + 1) false }) }
+        ensures start { IfOk result (λ r. r ≡ record {
+          state = first.now;
+          values = replicate (d.now.vars + 1) false;
+        }) }
         ensures fits { IfOk result (λ r. Fits (circuit d.now) r) }
         ensures run { IfOk result (λ r. RunsTo (circuit d.now) first.now [] [] r.state) }
     {
@@ -47,8 +50,10 @@ impl Runner {
         ensures values { IsValuation (circuit d.now) self.old.state inputs.now self.new.values }
         ensures state { self.new.state ≡ next_state (circuit d.now) self.new.values }
         ensures fits { Fits (circuit d.now) self.new }
-        ensures run { (first : List Bool) (rows steps : List (List Bool)) → RunsTo (circuit d.now) first rows steps self.old.state
-            → RunsTo (circuit d.now) first (rows ++ inputs.now ∷ []) (steps ++ self.new.values ∷ []) self.new.state }
+        ensures run { (first : List Bool) (rows steps : List (List Bool))
+            → RunsTo (circuit d.now) first rows steps self.old.state
+            → RunsTo (circuit d.now) first (rows ++ inputs.now ∷ []) (steps ++ self.new.values ∷ [])
+            self.new.state }
     {
         evaluate(d, &self.state, inputs, &mut self.vals);
         next_into(d, &self.vals, &mut self.state);

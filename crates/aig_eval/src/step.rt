@@ -81,7 +81,7 @@ fn put_latches(d: &Design, latches: &Row, vals: &mut Row)
 }
 
 // The gates stand in an order in which right sides come first, so one pass gives each its value.
-fn put_gates(d: &Design, vals: &mut Row)
+pub(crate) fn put_gates(d: &Design, vals: &mut Row)
     requires { length vals.old ≡ d.now.vars + 1 }
     ensures gates { PutsGates d.now.gates (length d.now.gates) vals.old vals.new }
     ensures sound { IsSound d.now }
