@@ -49,27 +49,33 @@ bit_kept seen v u h e =
     ]
 
 -- a variable that is set does not come again
-fresh_misses : (n : ℕ) (seen : List Bool) (vs : List ℕ) (k : ℕ) → length seen ≡ n → AreFresh seen vs → AllByRecursion (λ v. v < n) vs → k < length vs → bit seen (slice_index vs k) ≡ true → ⊥
+fresh_misses : (n : ℕ) (seen : List Bool) (vs : List ℕ) (k : ℕ) → length seen ≡ n → AreFresh seen vs
+    → AllByRecursion (λ v. v < n) vs → k < length vs → bit seen (slice_index vs k) ≡ true → ⊥
 fresh_misses n seen [] k len fresh within lt e = absurd (omega arith)
 fresh_misses n seen (v ∷ vs) zero len fresh within lt e = absurd (cc (fresh.0, e))
 fresh_misses n seen (v ∷ vs) (suc k) len fresh within lt e =
-    fresh_misses n (set seen v true) vs k (length-set seen v true ∙ len) fresh.1 within.1 (omega arith) (bit_kept seen v (slice_index vs k) (omega (arith, within.0)) e)
+    fresh_misses n (set seen v true) vs k (length-set seen v true ∙ len) fresh.1 within.1 (omega arith)
+    (bit_kept seen v (slice_index vs k) (omega (arith, within.0)) e)
 
-pub fresh_apart : (n : ℕ) (seen : List Bool) (vs : List ℕ) → length seen ≡ n → AreFresh seen vs → AllByRecursion (λ v. v < n) vs → (i j : ℕ) → i < j → j < length vs → slice_index vs i ≡ slice_index vs j → ⊥
+pub fresh_apart : (n : ℕ) (seen : List Bool) (vs : List ℕ) → length seen ≡ n → AreFresh seen vs → AllByRecursion (λ v. v < n) vs
+    → (i j : ℕ) → i < j → j < length vs → slice_index vs i ≡ slice_index vs j → ⊥
 fresh_apart n seen [] len fresh within i j lt le e = absurd (omega arith)
 fresh_apart n seen (v ∷ vs) len fresh within i zero lt le e = absurd (omega arith)
 fresh_apart n seen (v ∷ vs) len fresh within zero (suc j) lt le e =
-    fresh_misses n (set seen v true) vs j (length-set seen v true ∙ len) fresh.1 within.1 (omega arith) (ap (λ (k : ℕ). bit (set seen v true) k) (sym e) ∙ bit_set seen v (omega (arith, within.0)))
+    fresh_misses n (set seen v true) vs j (length-set seen v true ∙ len) fresh.1 within.1 (omega arith)
+    (ap (λ (k : ℕ). bit (set seen v true) k) (sym e) ∙ bit_set seen v (omega (arith, within.0)))
 fresh_apart n seen (v ∷ vs) len fresh within (suc i) (suc j) lt le e =
     fresh_apart n (set seen v true) vs (length-set seen v true ∙ len) fresh.1 within.1 i j (omega arith) (omega arith) e
 
 -- ---- variables that come once are fresh
 
-pub apart_fresh : (seen : List Bool) (vs : List ℕ) → ((k : ℕ) → k < length vs → bit seen (slice_index vs k) ≡ false) → ((i j : ℕ) → i < j → j < length vs → slice_index vs i ≡ slice_index vs j → ⊥) → AreFresh seen vs
+pub apart_fresh : (seen : List Bool) (vs : List ℕ) → ((k : ℕ) → k < length vs → bit seen (slice_index vs k) ≡ false)
+    → ((i j : ℕ) → i < j → j < length vs → slice_index vs i ≡ slice_index vs j → ⊥) → AreFresh seen vs
 apart_fresh seen [] clear apart = tt
 apart_fresh seen (v ∷ vs) clear apart = (
   clear 0 (omega arith),
   apart_fresh (set seen v true) vs
-      (λ k lt. let ne : slice_index vs k ≢ v = λ e. apart 0 (suc k) (omega arith) (omega arith) (sym e) in bit_other seen v (slice_index vs k) ne ∙ clear (suc k) (omega arith))
+      (λ k lt. let ne : slice_index vs k ≢ v = λ e. apart 0 (suc k) (omega arith) (omega arith) (sym e) in bit_other seen v
+      (slice_index vs k) ne ∙ clear (suc k) (omega arith))
       (λ i j lt le e. apart (suc i) (suc j) (omega arith) (omega arith) e),
 )

@@ -76,15 +76,20 @@ record ReadsSections (size : ℕ) (h : Header) (bytes : List ℕ) (p : Parts) (t
   gates : repeated (gate_at h.vars size) h.gates (record { seen = l.1.seen; rest = c.1 }) ≡ Ok g
   whole : ◌≡◌ {A = Result (Parts × List ℕ) ReadRefusal} (Ok (lists_of h i.0 l.0 o.0 b.0 c.0 g.0, g.1.rest)) (Ok (p, tail))
 
-sections_read : (size : ℕ) (h : Header) (bytes : List ℕ) (p : Parts) (tail : List ℕ) → sections_at size h bytes ≡ Ok (p, tail) → ReadsSections size h bytes p tail
+sections_read : (size : ℕ) (h : Header) (bytes : List ℕ) (p : Parts) (tail : List ℕ) → sections_at size h bytes ≡ Ok (p, tail)
+    → ReadsSections size h bytes p tail
 unfolding sections_at
 sections_read size h bytes p tail e =
     let v = h.vars in
     let y : Parts × List ℕ = (p, tail) in
-    let Six = λ (i : List ℕ × State) (l : List Latch × State) (o b c : List ℕ × List ℕ). λ (g : List AndGate × State). Ok (lists_of h i.0 l.0 o.0 b.0 c.0 g.0, g.1.rest) in
-    let Five = λ (i : List ℕ × State) (l : List Latch × State) (o b : List ℕ × List ℕ). λ (c : List ℕ × List ℕ). repeated (gate_at v size) h.gates (record { seen = l.1.seen; rest = c.1 }) >>= Six i l o b c in
-    let Four = λ (i : List ℕ × State) (l : List Latch × State) (o : List ℕ × List ℕ). λ (b : List ℕ × List ℕ). repeated (literal_at v size) h.constraints b.1 >>= Five i l o b in
-    let Three = λ (i : List ℕ × State) (l : List Latch × State). λ (o : List ℕ × List ℕ). repeated (literal_at v size) h.bads o.1 >>= Four i l o in
+    let Six = λ (i : List ℕ × State) (l : List Latch × State) (o b c : List ℕ × List ℕ). λ (g : List AndGate × State). Ok
+    (lists_of h i.0 l.0 o.0 b.0 c.0 g.0, g.1.rest) in
+    let Five = λ (i : List ℕ × State) (l : List Latch × State) (o b : List ℕ × List ℕ). λ (c : List ℕ × List ℕ). repeated
+    (gate_at v size) h.gates (record { seen = l.1.seen; rest = c.1 }) >>= Six i l o b c in
+    let Four = λ (i : List ℕ × State) (l : List Latch × State) (o : List ℕ × List ℕ). λ (b : List ℕ × List ℕ). repeated
+    (literal_at v size) h.constraints b.1 >>= Five i l o b in
+    let Three = λ (i : List ℕ × State) (l : List Latch × State). λ (o : List ℕ × List ℕ). repeated
+    (literal_at v size) h.bads o.1 >>= Four i l o in
     let Two = λ (i : List ℕ × State). λ (l : List Latch × State). repeated (literal_at v size) h.outputs l.1.rest >>= Three i l in
     let One = λ (i : List ℕ × State). repeated (latch_at v size) h.latches i.1 >>= Two i in
     bind_then (repeated (input_at v size) h.inputs (state_before v bytes)) One y e (λ i inputs e1.
@@ -96,22 +101,27 @@ sections_read size h bytes p tail e =
     record { i = i; l = l; o = o; b = b; c = c; g = g; inputs = inputs; latches = latches; outputs = outputs; bads = bads; constraints = constraints; gates = gates; whole = e6 }))))))
 
 -- variables of inputs, latches and gates that are fresh one after the other are fresh together
-fresh_together : (seen seen1 seen2 : List Bool) (us vs ws : List ℕ) → AreFresh seen us → seen1 ≡ marked seen us → AreFresh seen1 vs → seen2 ≡ marked seen1 vs → AreFresh seen2 ws → AreFresh seen (us ++ vs ++ ws)
+fresh_together : (seen seen1 seen2 : List Bool) (us vs ws : List ℕ) → AreFresh seen us → seen1 ≡ marked seen us
+    → AreFresh seen1 vs → seen2 ≡ marked seen1 vs → AreFresh seen2 ws → AreFresh seen (us ++ vs ++ ws)
 fresh_together seen seen1 seen2 us vs ws fresh1 e1 fresh2 e2 fresh3 =
     let two : AreFresh (marked seen us) vs = subst (λ (k : List Bool). AreFresh k vs) e1 fresh2 in
     let both : seen2 ≡ marked seen (us ++ vs) = e2 ∙ ap (λ (k : List Bool). marked k vs) e1 ∙ sym (marked-append seen us vs) in
     fresh_join seen (us ++ vs) ws (fresh_join seen us vs fresh1 two) (subst (λ (k : List Bool). AreFresh k ws) both fresh3)
 
-sections_spelled : (size : ℕ) (h : Header) (bytes : List ℕ) (p : Parts) (tail : List ℕ) (r : ReadsSections size h bytes p tail) → TakesSections h bytes (lists_of h r.i.0 r.l.0 r.o.0 r.b.0 r.c.0 r.g.0) r.g.1.rest
+sections_spelled : (size : ℕ) (h : Header) (bytes : List ℕ) (p : Parts) (tail : List ℕ) (r : ReadsSections size h bytes p tail)
+    → TakesSections h bytes (lists_of h r.i.0 r.l.0 r.o.0 r.b.0 r.c.0 r.g.0) r.g.1.rest
 unfolding input_at latch_at gate_at
 sections_spelled size h bytes p tail r =
     let v = h.vars in
-    let inputs = section_takes (input_from v) IsLiteralLine (IsNew v) (λ l. l) size (input_form v) h.inputs (state_before v bytes) r.i.0 r.i.1 r.inputs in
-    let latches = section_takes (latch_from v) IsLatchLine (IsLatchInRange v) (λ k. k.lit) size (latch_form v) h.latches r.i.1 r.l.0 r.l.1 r.latches in
+    let inputs = section_takes (input_from v) IsLiteralLine (IsNew v) (λ l. l) size (input_form v) h.inputs
+    (state_before v bytes) r.i.0 r.i.1 r.inputs in
+    let latches = section_takes (latch_from v) IsLatchLine (IsLatchInRange v) (λ k. k.lit) size
+    (latch_form v) h.latches r.i.1 r.l.0 r.l.1 r.latches in
     let outputs = literals_take v size h.outputs r.l.1.rest r.o.0 r.o.1 r.outputs in
     let bads = literals_take v size h.bads r.o.1 r.b.0 r.b.1 r.bads in
     let constraints = literals_take v size h.constraints r.b.1 r.c.0 r.c.1 r.constraints in
-    let gates = section_takes (gate_from v) IsGateLine (IsGateInRange v) (λ g. g.lhs) size (gate_form v) h.gates (record { seen = r.l.1.seen; rest = r.c.1 }) r.g.0 r.g.1 r.gates in
+    let gates = section_takes (gate_from v) IsGateLine (IsGateInRange v) (λ g. g.lhs) size (gate_form v) h.gates
+    (record { seen = r.l.1.seen; rest = r.c.1 }) r.g.0 r.g.1 r.gates in
     record {
       rest1 = r.i.1.rest;
       rest2 = r.l.1.rest;
@@ -127,35 +137,43 @@ sections_spelled size h bytes p tail r =
       gates = gates.0;
       counts = record { vars = refl; inputs = inputs.3; latches = latches.3; outputs = outputs.1; bad_lines = bads.1; constraints = constraints.1; gates = gates.3 };
       properties = refl;
-      fresh = fresh_together (replicate (v + 1) false) r.i.1.seen r.l.1.seen (map variable r.i.0) (map (λ (k : Latch). variable k.lit) r.l.0) (map gate_var r.g.0) inputs.1 inputs.2 latches.1 latches.2 gates.1;
+      fresh = fresh_together (replicate (v + 1) false) r.i.1.seen r.l.1.seen (map variable r.i.0)
+          (map (λ (k : Latch). variable k.lit) r.l.0) (map gate_var r.g.0) inputs.1 inputs.2 latches.1 latches.2 gates.1;
     }
 
-pub sections_take : (size : ℕ) (h : Header) (bytes : List ℕ) (p : Parts) (tail : List ℕ) → sections_at size h bytes ≡ Ok (p, tail) → TakesSections h bytes p tail
+pub sections_take : (size : ℕ) (h : Header) (bytes : List ℕ) (p : Parts) (tail : List ℕ) → sections_at size h bytes ≡ Ok (p, tail)
+    → TakesSections h bytes p tail
 sections_take size h bytes p tail e =
     let r = sections_read size h bytes p tail e in
-    subst (λ (q : Parts × List ℕ). TakesSections h bytes q.0 q.1) (ok_is (lists_of h r.i.0 r.l.0 r.o.0 r.b.0 r.c.0 r.g.0, r.g.1.rest) (p, tail) r.whole) (sections_spelled size h bytes p tail r)
+    subst (λ (q : Parts × List ℕ). TakesSections h bytes q.0 q.1)
+    (ok_is (lists_of h r.i.0 r.l.0 r.o.0 r.b.0 r.c.0 r.g.0, r.g.1.rest) (p, tail) r.whole)
+    (sections_spelled size h bytes p tail r)
 
 -- ---- literals are in range, and no variable is defined twice
 
 new_variable : (vars l : ℕ) → IsNew vars l → variable l < vars + 1
 new_variable vars l h = omega (arith, h.within)
 
-within_row : (h : Header) (bytes : List ℕ) (p : Parts) (tail : List ℕ) → TakesSections h bytes p tail → AllByRecursion (λ v. v < h.vars + 1) (definitions (netlist_of p))
+within_row : (h : Header) (bytes : List ℕ) (p : Parts) (tail : List ℕ) → TakesSections h bytes p tail
+    → AllByRecursion (λ v. v < h.vars + 1) (definitions (netlist_of p))
 within_row h bytes p tail t =
     let W = λ (v : ℕ). v < h.vars + 1 in
     let I = map variable p.inputs in
     let L = map (λ (k : Latch). variable k.lit) p.latches in
     all_join W (I ++ L) (map gate_var p.gates)
     (all_join W I L (all_mapped variable (IsNew h.vars) W (λ l new. new_variable h.vars l new) p.inputs t.inputs.range)
-    (all_mapped (λ (k : Latch). variable k.lit) (IsLatchInRange h.vars) W (λ k range. new_variable h.vars k.lit range.lit) p.latches t.latches.range))
+    (all_mapped (λ (k : Latch). variable k.lit) (IsLatchInRange h.vars) W
+    (λ k range. new_variable h.vars k.lit range.lit) p.latches t.latches.range))
     (all_mapped gate_var (IsGateInRange h.vars) W (λ g range. new_variable h.vars g.lhs range.lhs) p.gates t.gates.range)
 
 pub sections_once : (h : Header) (bytes : List ℕ) (p : Parts) (tail : List ℕ) → TakesSections h bytes p tail → AreOnce p
 sections_once h bytes p tail t v twice =
-    fresh_apart (h.vars + 1) (replicate (h.vars + 1) false) (definitions (netlist_of p)) (length-replicate (h.vars + 1) false) t.fresh (within_row h bytes p tail t)
+    fresh_apart (h.vars + 1) (replicate (h.vars + 1) false) (definitions (netlist_of p))
+    (length-replicate (h.vars + 1) false) t.fresh (within_row h bytes p tail t)
     twice.one twice.other twice.apart twice.within (twice.one_is ∙ sym twice.other_is)
 
-pub sections_range : (h : Header) (bytes : List ℕ) (p : Parts) (tail : List ℕ) → TakesSections h bytes p tail → h.vars ≤ 500000 → AreInRange p
+pub sections_range : (h : Header) (bytes : List ℕ) (p : Parts) (tail : List ℕ) → TakesSections h bytes p tail → h.vars ≤ 500000
+    → AreInRange p
 sections_range h bytes p tail t few =
     range_of_lists h.vars p t.counts.vars (omega arith) (record {
       inputs = t.inputs.range;
@@ -179,13 +197,21 @@ pub record TakesFile (bytes : List ℕ) (f : File) : Type 0 where
 pub file_takes : (bytes : List ℕ) (f : File) → file_at bytes ≡ Ok f → TakesFile bytes f
 unfolding file_at
 file_takes bytes f e =
-    let Second = λ (head : Header × List ℕ). λ (lists : Parts × List ℕ). Ok (record { head = head.0; parts = lists.0; tail = lists.1 }) in
+    let Second = λ (head : Header × List ℕ). λ (lists : Parts × List ℕ). Ok
+    (record { head = head.0; parts = lists.0; tail = lists.1 }) in
     let First = λ (head : Header × List ℕ). sections_at (length bytes) head.0 head.1 >>= Second head in
     bind_then (header_at Ascii bytes) First f e (λ head header e1.
     bind_then (sections_at (length bytes) head.0 head.1) (Second head) f e1 (λ lists sections e2.
     let file : File = record { head = head.0; parts = lists.0; tail = lists.1 } in
     let h = header_takes Ascii bytes head.0 head.1 header in
-    let taken : TakesFile bytes file = record { rest = head.1; header = h.0; limits = h.1; small = h.2; sections = sections_take (length bytes) head.0 head.1 lists.0 lists.1 sections } in
+    let taken : TakesFile bytes file = record {
+      rest = head.1;
+      header = h.0;
+      limits = h.1;
+      small = h.2;
+      sections = sections_take
+          (length bytes) head.0 head.1 lists.0 lists.1 sections;
+    } in
     subst (λ (k : File). TakesFile bytes k) (ok_is file f e2) taken))
 
 pub file_range : (bytes : List ℕ) (f : File) → file_at bytes ≡ Ok f → AreInRange f.parts
@@ -195,24 +221,28 @@ pub file_once : (bytes : List ℕ) (f : File) → file_at bytes ≡ Ok f → Are
 file_once bytes f e = let t = file_takes bytes f e in sections_once f.head t.rest f.parts f.tail t.sections
 
 -- the texts of the parts, behind each other
-chain_parts : (a x b c d e f g t p q r : List ℕ) → a ≡ x ++ b → b ≡ c ++ d → d ≡ e ++ f → f ≡ g ++ t → t ≡ p ++ q → a ≡ x ++ c ++ e ++ g ++ p ++ q
+chain_parts : (a x b c d e f g t p q r : List ℕ) → a ≡ x ++ b → b ≡ c ++ d → d ≡ e ++ f → f ≡ g ++ t → t ≡ p ++ q
+    → a ≡ x ++ c ++ e ++ g ++ p ++ q
 chain_parts a x b c d e f g t p q r e1 e2 e3 e4 e5 =
     e1 ∙ ap (λ k. x ++ k) e2 ∙ sym (append_assoc x c d)
     ∙ ap (λ k. (x ++ c) ++ k) e3 ∙ sym (append_assoc (x ++ c) e f)
     ∙ ap (λ k. (x ++ c ++ e) ++ k) e4 ∙ sym (append_assoc (x ++ c ++ e) g t)
     ∙ ap (λ k. (x ++ c ++ e ++ g) ++ k) e5 ∙ sym (append_assoc (x ++ c ++ e ++ g) p q)
 
-file_text : (bytes : List ℕ) (f : File) (t : TakesFile bytes f) → bytes ≡ t.header.text ++ t.sections.inputs.text ++ t.sections.latches.text ++ t.sections.outputs.text ++ t.sections.bads.text ++ t.sections.constraints.text ++ t.sections.gates.text ++ f.tail
+file_text : (bytes : List ℕ) (f : File) (t : TakesFile bytes f)
+    → bytes ≡ t.header.text ++ t.sections.inputs.text ++ t.sections.latches.text ++ t.sections.outputs.text ++ t.sections.bads.text ++ t.sections.constraints.text ++ t.sections.gates.text ++ f.tail
 file_text bytes f t =
     let s = t.sections in
     let four = t.header.text ++ s.inputs.text ++ s.latches.text ++ s.outputs.text in
     let front : bytes ≡ four ++ s.bads.text ++ s.rest4 = chain_parts bytes t.header.text t.rest s.inputs.text s.rest1 s.latches.text s.rest2 s.outputs.text s.rest3 s.bads.text s.rest4 s.rest4 t.header.parts s.inputs.parts s.latches.parts s.outputs.parts s.bads.parts in
     let five = four ++ s.bads.text in
     front ∙ ap (λ (k : List ℕ). five ++ k) s.constraints.parts ∙ sym (append_assoc five s.constraints.text s.rest5)
-    ∙ ap (λ (k : List ℕ). (five ++ s.constraints.text) ++ k) s.gates.parts ∙ sym (append_assoc (five ++ s.constraints.text) s.gates.text f.tail)
+    ∙ ap (λ (k : List ℕ). (five ++ s.constraints.text) ++ k) s.gates.parts
+    ∙ sym (append_assoc (five ++ s.constraints.text) s.gates.text f.tail)
 
 -- what is read, makes a design and ends in a tail is a design
-pub file_spells : (bytes : List ℕ) (f : File) → file_at bytes ≡ Ok f → MakesDesign f.parts → IsTail f.head f.tail → Spells bytes f.parts
+pub file_spells : (bytes : List ℕ) (f : File) → file_at bytes ≡ Ok f → MakesDesign f.parts → IsTail f.head f.tail
+    → Spells bytes f.parts
 file_spells bytes f e design tail =
     let t = file_takes bytes f e in
     let s = t.sections in

@@ -2,4 +2,4 @@ pub mod DefineLemmas
 pub mod ItemLemmas
 pub mod FileLemmas
 pub mod SpellLemmas
-pub mod FaultLemmas
+pub mod RefusalLemmas

@@ -8,6 +8,7 @@ use Rattle.aig_model.specs.declared.netlist.Parts.{Parts}
 use Rattle.aig_model.specs.Netlist.{circuit}
 use Rattle.aig_model.specs.Refusals.{netlist_of, AreInRange, MakesDesign}
 use Rattle.aiger_lines.specs.declared.form.Form.TheVariants.{Ascii}
+use Rattle.aiger_lines.specs.declared.limits.TheConstants.{MOST_BYTES}
 use Rattle.aiger_lines.specs.declared.sizes.Header.{Header}
 use Rattle.aiger_lines.specs.Header.{IsHeaderLine, IsWithinLimits}
 use Rattle.aiger_lines.specs.Lines.{AreLines, IsLiteralLine, HasReset}
@@ -58,7 +59,7 @@ pub record Spells (bytes : List ℕ) (p : Parts) : Type 0 where
   pub spelled : AreSpelled head p bads sections
   pub counts : Counts head p bads
   pub properties : p.bads ≡ (if head.bads == 0 then p.outputs else bads)
-  pub file : length bytes ≤ 67108864
+  pub file : length bytes ≤ MOST_BYTES
   pub limits : IsWithinLimits Ascii head
   pub range : AreInRange p
   pub design : MakesDesign p

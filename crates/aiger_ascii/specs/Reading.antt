@@ -1,4 +1,4 @@
--- The sections of a file, read from left to right: their lists, or the first fault that is met.
+-- The sections of a file, read from left to right: their lists, or the first refusal that is met.
 use Rattle.std.specs.Prelude.{ℕ, ◌+◌, ◌*◌, ◌%◌, ◌==◌, ◌&&◌, Bool, false, true, nat_le, if◌then◌else◌, List, [], ◌∷◌, length, replicate, slice_set, Result, Ok, Err}
 use Rattle.ja_base.specs.Literals.{bit, variable}
 use Rattle.ja_text.specs.Reading.{◌>>=◌}

@@ -1,19 +1,19 @@
 ghost use Rattle.std.specs.Prelude.{◌≡◌, ◌+◌, ◌^◌, ◌<◌, length};
 ghost use Rattle.ja_text.specs.Reading.{Gives};
 ghost use Rattle.ja_text.specs.Repeated.{repeated};
-ghost use Rattle.aiger_lines.specs.Reading.{Reads};
 ghost use Rattle.aiger_ascii.specs.Reading.{input_at};
 
 use crate::define::{define, new_literal};
-use aiger_lines::{ReadRefusal, numbers, one_number, place};
-use ja_base::{Lit, Lits, OrMemory, Row};
+use aiger_lines::{Read, numbers, one_number, place};
+use ja_base::{Lit, Lits, Row};
 use std::alloc::Global;
 
 #[tactic(auto, unfolding(crate::specs::Reading::input_at))]
-fn input(vars: u32, size: usize, seen: &mut Row, rest: &mut &[u8]) -> Result<Lit, ReadRefusal>
+fn input(vars: u32, size: usize, seen: &mut Row, rest: &mut &[u8]) -> Read<Lit>
     requires small { vars < 2 ^ 31 }
     requires wide { length seen.old ≡ vars + 1 }
-    ensures read { Reads (λ l. (l, record { seen = seen.new; rest = rest.new.now })) result (input_at vars size (record { seen = seen.old; rest = rest.old.now })) }
+    ensures read { Gives (λ l. (l, record { seen = seen.new; rest = rest.new.now })) result
+        (input_at vars size (record { seen = seen.old; rest = rest.old.now })) }
     ensures sized { length seen.new ≡ length seen.old }
 {
     let at = place(size, *rest);
@@ -31,10 +31,11 @@ pub fn inputs(
     size: usize,
     seen: &mut Row,
     rest: &mut &[u8],
-) -> Result<Lits, OrMemory<ReadRefusal>>
+) -> Read<Lits>
     requires small { vars < 2 ^ 31 }
     requires wide { length seen.old ≡ vars + 1 }
-    ensures read { Gives (λ ls. (ls, record { seen = seen.new; rest = rest.new.now })) result (repeated (input_at vars size) count (record { seen = seen.old; rest = rest.old.now })) }
+    ensures read { Gives (λ ls. (ls, record { seen = seen.new; rest = rest.new.now })) result
+        (repeated (input_at vars size) count (record { seen = seen.old; rest = rest.old.now })) }
     ensures sized { length seen.new ≡ length seen.old }
 {
     let mut lits = Lits::new(alloc);

@@ -1,19 +1,26 @@
-//! Bytes spell at most one design, or they have at most one first fault.
+//! Bytes spell exactly one design, or they have exactly one first refusal.
 
 ghost use Rattle.std.specs.Prelude.{◌≡◌, ℕ, List};
 ghost use Rattle.ja_base.specs.Circuit.{Circuit};
 ghost use Rattle.aiger_lines.specs.declared.refusal.ReadRefusal.{ReadRefusal};
 ghost use Rattle.aiger_ascii.specs.Grammar.{IsAsciiDesign};
-ghost use Rattle.aiger_ascii.specs.FirstFault.{IsFirstFault};
+ghost use Rattle.aiger_ascii.specs.FirstRefusal.{IsFirstRefusal, SpellsOrIsRefused};
 
 pub fn text_has_one_design()
-    ensures { (bytes : List ℕ) (c d : Circuit) → IsAsciiDesign bytes c → IsAsciiDesign bytes d → c ≡ d }
+    ensures { (bytes : List ℕ) (c d : Circuit)
+        → IsAsciiDesign bytes c → IsAsciiDesign bytes d → c ≡ d }
 {}
 
-pub fn design_has_no_fault()
-    ensures { (bytes : List ℕ) (c : Circuit) (fault : ReadRefusal) → IsAsciiDesign bytes c → IsFirstFault bytes fault → ⊥ }
+pub fn design_has_no_refusal()
+    ensures { (bytes : List ℕ) (c : Circuit) (refusal : ReadRefusal)
+        → IsAsciiDesign bytes c → IsFirstRefusal bytes refusal → ⊥ }
 {}
 
-pub fn faults_agree()
-    ensures { (bytes : List ℕ) (a b : ReadRefusal) → IsFirstFault bytes a → IsFirstFault bytes b → a ≡ b }
+pub fn refusals_agree()
+    ensures { (bytes : List ℕ) (a b : ReadRefusal)
+        → IsFirstRefusal bytes a → IsFirstRefusal bytes b → a ≡ b }
+{}
+
+pub fn spells_or_is_refused()
+    ensures { SpellsOrIsRefused }
 {}

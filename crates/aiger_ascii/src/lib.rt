@@ -1,5 +1,5 @@
 //! The ASCII form of AIGER 1.9. Which bytes spell which design stands in `specs/Grammar`, and which refusal comes first in
-//! `specs/FirstFault`.
+//! `specs/FirstRefusal`.
 #![tactic(auto)]
 
 mod define;
@@ -10,7 +10,7 @@ mod laws;
 mod read;
 mod sections;
 
-pub use laws::{design_has_no_fault, faults_agree, text_has_one_design};
+pub use laws::{design_has_no_refusal, refusals_agree, spells_or_is_refused, text_has_one_design};
 pub use read::read_ascii;
 
 #[cfg(test)]

@@ -8,17 +8,12 @@ use crate::gates::gates;
 use crate::inputs::inputs;
 use crate::latches::latches;
 use aig_model::Parts;
-use aiger_lines::{Header, ReadRefusal, literals, properties};
-use ja_base::{OrMemory, Row};
+use aiger_lines::{Header, Read, literals, properties};
+use ja_base::Row;
 use std::alloc::Global;
 
 #[tactic(auto, unfolding(crate::specs::Reading::sections_at))]
-pub fn sections(
-    alloc: Global,
-    size: usize,
-    header: &Header,
-    rest: &mut &[u8],
-) -> Result<Parts, OrMemory<ReadRefusal>>
+pub fn sections(alloc: Global, size: usize, header: &Header, rest: &mut &[u8]) -> Read<Parts>
     requires { header.now.vars < 2 ^ 31 }
     ensures { Gives (λ p. (p, rest.new.now)) result (sections_at size header.now rest.old.now) }
 {

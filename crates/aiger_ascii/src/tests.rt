@@ -1,7 +1,9 @@
 use crate::read_ascii;
 use aig_model::Reset;
 use aiger_lines::{Large, ReadRefusal};
-use ja_base::{OrMemory, Var};
+use ja_base::{Memory, OrMemory, Var};
+use ja_text::Text;
+use std::alloc::Global;
 use std::test::Fail;
 
 const NO_HEADER: ReadRefusal = ReadRefusal::Header { at: 0 };
@@ -236,6 +238,41 @@ fn large_files(rt: HostRuntime) -> Result<(), Fail> {
         let bytes = vec![in rt.alloc(); 0u8; len]?;
         let refused = read_ascii(rt.alloc(), bytes.as_slice()).err();
         assert_eq!(rt; refused, Some(OrMemory::Refused(want)), "at {len}");
+    }
+    Ok(())
+}
+
+/// A header, and so many lines behind it: of the even numbers from 2 on, or of zeros.
+fn many_lines(
+    alloc: Global,
+    header: &[u8],
+    count: u32,
+    ascends: bool,
+    ending: &[u8],
+) -> Result<Text, Memory> {
+    let mut text = Text::new(alloc);
+    text.push(header)?;
+    for line in 0..count {
+        text.number(if ascends { 2 * u64::from(line) + 2 } else { 0 })?;
+        text.push(ending)?;
+    }
+    Ok(text)
+}
+
+#[test]
+fn takes_files_at_the_limits(rt: HostRuntime) -> Result<(), Fail> {
+    let rows: [(&[u8], u32, bool, &[u8]); 5] = [
+        (b"aag 500000 500000 0 0 0\n", 500_000, true, b"\n"),
+        (b"aag 500000 0 500000 0 0\n", 500_000, true, b" 0\n"),
+        // the last line is of a bad, since outputs are properties where there is none
+        (b"aag 0 0 0 500000 0 1\n", 500_001, false, b"\n"),
+        (b"aag 0 0 0 0 0 20000\n", 20_000, false, b"\n"),
+        (b"aag 0 0 0 0 0 0 500000\n", 500_000, false, b"\n"),
+    ];
+    for (header, count, ascends, ending) in rows {
+        let text = many_lines(rt.alloc(), header, count, ascends, ending)?;
+        let read = read_ascii(rt.alloc(), text.bytes());
+        assert!(rt; read.is_ok(), "behind {header:?}");
     }
     Ok(())
 }

@@ -37,33 +37,41 @@ no_low (Err e) = refl
 weighed : (number scale b n : ℕ) → number + scale * (b + 128 * n) ≡ number + b * scale + scale * 128 * n
 weighed number scale b n = omega arith
 
-more_low : (number scale b : ℕ) (read : Result (ℕ × List ℕ) ReadRefusal) → with_low number scale (read >>= λ r. Ok (b + 128 * r.0, r.1)) ≡ with_low (number + b * scale) (scale * 128) read
+more_low : (number scale b : ℕ) (read : Result (ℕ × List ℕ) ReadRefusal)
+    → with_low number scale (read >>= λ r. Ok (b + 128 * r.0, r.1)) ≡ with_low (number + b * scale) (scale * 128) read
 more_low number scale b (Ok r) = ap (λ (n : ℕ). Ok (n, r.1)) (weighed number scale b r.0)
 more_low number scale b (Err e) = refl
 
 module _ (size at number scale i : ℕ) (whole : Result (ℕ × List ℕ) ReadRefusal) where
-  pub low_lacks : (rest : List ℕ) → i < 5 → rest ≡ [] → with_low number scale (groups_at size at (5 - i) rest) ≡ whole → whole ≡ Err (refusal.Short size)
+  pub low_lacks : (rest : List ℕ) → i < 5 → rest ≡ [] → with_low number scale (groups_at size at (5 - i) rest) ≡ whole
+      → whole ≡ Err (refusal.Short size)
   low_lacks rest lt e so_far =
       let left : 5 - i ≡ suc (5 - (i + 1)) = omega arith in
       let one : with_low number scale (groups_at size at (5 - i) rest) ≡ Err (refusal.Short size) = rw (left, e) refl in
       sym so_far ∙ one
 
-  pub low_ends : (rest after : List ℕ) (b : ℕ) → i < 5 → rest ≡ b ∷ after → b < 128 → with_low number scale (groups_at size at (5 - i) rest) ≡ whole → whole ≡ Ok (number + b % 128 * scale, after)
+  pub low_ends : (rest after : List ℕ) (b : ℕ) → i < 5 → rest ≡ b ∷ after → b < 128
+      → with_low number scale (groups_at size at (5 - i) rest) ≡ whole → whole ≡ Ok (number + b % 128 * scale, after)
   low_ends rest after b lt e low so_far =
       let left : 5 - i ≡ suc (5 - (i + 1)) = omega arith in
-      let one : with_low number scale (groups_at size at (5 - i) rest) ≡ Ok (number + scale * b, after) = rw (left, e, tests_below b 128 low) refl in
+      let one : with_low number scale (groups_at size at (5 - i) rest) ≡ Ok (number + scale * b, after) = rw
+      (left, e, tests_below b 128 low) refl in
       let group : b % 128 ≡ b = omega arith in
       let same : number + scale * b ≡ number + b % 128 * scale = rw group (omega arith) in
       sym so_far ∙ one ∙ ap (λ (n : ℕ). Ok (n, after)) same
 
-  pub low_goes_on : (rest after : List ℕ) (b : ℕ) → i < 5 → rest ≡ b ∷ after → 128 ≤ b → with_low number scale (groups_at size at (5 - i) rest) ≡ whole
+  pub low_goes_on : (rest after : List ℕ) (b : ℕ) → i < 5 → rest ≡ b ∷ after → 128 ≤ b
+      → with_low number scale (groups_at size at (5 - i) rest) ≡ whole
       → with_low (number + b % 128 * scale) (scale * 128) (groups_at size at (5 - (i + 1)) after) ≡ whole
   low_goes_on rest after b lt e high so_far =
       let left : 5 - i ≡ suc (5 - (i + 1)) = omega arith in
-      let one : with_low number scale (groups_at size at (5 - i) rest) ≡ with_low number scale (groups_at size at (5 - (i + 1)) after >>= λ r. Ok (b % 128 + 128 * r.0, r.1)) = rw (left, e, tests_not_below b 128 high) refl in
+      let one : with_low number scale (groups_at size at (5 - i) rest) ≡ with_low number scale
+      (groups_at size at (5 - (i + 1)) after >>= λ r. Ok (b % 128 + 128 * r.0, r.1)) = rw
+      (left, e, tests_not_below b 128 high) refl in
       sym (more_low number scale (b % 128) (groups_at size at (5 - (i + 1)) after)) ∙ sym one ∙ so_far
 
-  pub low_is_full : (rest : List ℕ) → 5 ≤ i → with_low number scale (groups_at size at (5 - i) rest) ≡ whole → whole ≡ Err (refusal.Line at)
+  pub low_is_full : (rest : List ℕ) → 5 ≤ i → with_low number scale (groups_at size at (5 - i) rest) ≡ whole
+      → whole ≡ Err (refusal.Line at)
   low_is_full rest le so_far =
       let left : 5 - i ≡ 0 = omega arith in
       let one : with_low number scale (groups_at size at (5 - i) rest) ≡ Err (refusal.Line at) = rw left refl in
@@ -116,7 +124,8 @@ ends_more b (c ∷ bs) high ends = (high, ends)
 last_group : (most b : ℕ) (bs : List ℕ) → b < 128 → TakesGroups (suc most) (b ∷ bs) b bs
 last_group most b bs low = record { text = b ∷ []; parts = refl; ends = low; few = omega arith; value = omega arith }
 
-one_more : (most b n : ℕ) (bs rest : List ℕ) → 128 ≤ b → TakesGroups most bs n rest → TakesGroups (suc most) (b ∷ bs) (b % 128 + 128 * n) rest
+one_more : (most b n : ℕ) (bs rest : List ℕ) → 128 ≤ b → TakesGroups most bs n rest
+    → TakesGroups (suc most) (b ∷ bs) (b % 128 + 128 * n) rest
 one_more most b n bs rest high t = record {
   text = b ∷ t.text;
   parts = ap (λ (k : List ℕ). b ∷ k) t.parts;
@@ -125,7 +134,8 @@ one_more most b n bs rest high t = record {
   value = ap (λ (k : ℕ). b % 128 + 128 * k) t.value;
 }
 
-groups_take : (size at most : ℕ) (bytes : List ℕ) (n : ℕ) (rest : List ℕ) → groups_at size at most bytes ≡ Ok (n, rest) → TakesGroups most bytes n rest
+groups_take : (size at most : ℕ) (bytes : List ℕ) (n : ℕ) (rest : List ℕ) → groups_at size at most bytes ≡ Ok (n, rest)
+    → TakesGroups most bytes n rest
 groups_take size at zero bytes n rest e = absurd cc
 groups_take size at (suc most) [] n rest e = absurd cc
 groups_take size at (suc most) (b ∷ bs) n rest e =
@@ -140,7 +150,8 @@ groups_take size at (suc most) (b ∷ bs) n rest e =
           subst Taken (ok_is (b % 128 + 128 * r.0.0, r.0.1) (n, rest) r.2) more
     ]
 
-groups_again : (size at most : ℕ) (text rest : List ℕ) → HasOneEnd text → length text ≤ most → groups_at size at most (text ++ rest) ≡ Ok (groups_value text, rest)
+groups_again : (size at most : ℕ) (text rest : List ℕ) → HasOneEnd text → length text ≤ most
+    → groups_at size at most (text ++ rest) ≡ Ok (groups_value text, rest)
 groups_again size at most [] rest ends few = absurd ends
 groups_again size at zero (b ∷ bs) rest ends few = absurd (omega arith)
 groups_again size at (suc most) (b ∷ []) rest ends few =
@@ -150,12 +161,15 @@ groups_again size at (suc most) (b ∷ c ∷ bs) rest ends few =
     let others = groups_again size at most (c ∷ bs) rest ends.1 (omega arith) in
     rw (tests_not_below b 128 ends.0, others) refl
 
-pub delta_takes : (size : ℕ) (bytes : List ℕ) (n : ℕ) (rest : List ℕ) → delta_at size bytes ≡ Ok (n, rest) → BeginsWith (λ text. IsDelta text n) bytes rest
+pub delta_takes : (size : ℕ) (bytes : List ℕ) (n : ℕ) (rest : List ℕ) → delta_at size bytes ≡ Ok (n, rest)
+    → BeginsWith (λ text. IsDelta text n) bytes rest
 unfolding delta_at
 delta_takes size bytes n rest e =
     let t = groups_take size (place size bytes) 5 bytes n rest e in
     record { text = t.text; form = record { ends = t.ends; few = t.few; value = t.value }; parts = t.parts }
 
-pub delta_again : (size : ℕ) (text : List ℕ) (n : ℕ) (rest : List ℕ) → IsDelta text n → delta_at size (text ++ rest) ≡ Ok (n, rest)
+pub delta_again : (size : ℕ) (text : List ℕ) (n : ℕ) (rest : List ℕ) → IsDelta text n
+    → delta_at size (text ++ rest) ≡ Ok (n, rest)
 unfolding delta_at
-delta_again size text n rest d = groups_again size (place size (text ++ rest)) 5 text rest d.ends d.few ∙ ap (λ (k : ℕ). Ok (k, rest)) (sym d.value)
+delta_again size text n rest d = groups_again size (place size (text ++ rest)) 5 text rest d.ends d.few
+    ∙ ap (λ (k : ℕ). Ok (k, rest)) (sym d.value)

@@ -76,14 +76,18 @@ record ReadsSections (size : ℕ) (h : Header) (bytes : List ℕ) (p : Parts) (t
   gates : repeated (gate_at size) h.gates (before_gates h c.1) ≡ Ok g
   whole : ◌≡◌ {A = Result (Parts × List ℕ) ReadRefusal} (Ok (lists_of h l.0 o.0 b.0 c.0 g.0, g.1.rest)) (Ok (p, tail))
 
-sections_read : (size : ℕ) (h : Header) (bytes : List ℕ) (p : Parts) (tail : List ℕ) → sections_at size h bytes ≡ Ok (p, tail) → ReadsSections size h bytes p tail
+sections_read : (size : ℕ) (h : Header) (bytes : List ℕ) (p : Parts) (tail : List ℕ) → sections_at size h bytes ≡ Ok (p, tail)
+    → ReadsSections size h bytes p tail
 unfolding sections_at
 sections_read size h bytes p tail e =
     let v = h.vars in
     let y : Parts × List ℕ = (p, tail) in
-    let Five = λ (l : List Latch × State) (o b c : List ℕ × List ℕ). λ (g : List AndGate × State). Ok (lists_of h l.0 o.0 b.0 c.0 g.0, g.1.rest) in
-    let Four = λ (l : List Latch × State) (o b : List ℕ × List ℕ). λ (c : List ℕ × List ℕ). repeated (gate_at size) h.gates (before_gates h c.1) >>= Five l o b c in
-    let Three = λ (l : List Latch × State) (o : List ℕ × List ℕ). λ (b : List ℕ × List ℕ). repeated (literal_at v size) h.constraints b.1 >>= Four l o b in
+    let Five = λ (l : List Latch × State) (o b c : List ℕ × List ℕ). λ (g : List AndGate × State). Ok
+    (lists_of h l.0 o.0 b.0 c.0 g.0, g.1.rest) in
+    let Four = λ (l : List Latch × State) (o b : List ℕ × List ℕ). λ (c : List ℕ × List ℕ). repeated (gate_at size) h.gates
+    (before_gates h c.1) >>= Five l o b c in
+    let Three = λ (l : List Latch × State) (o : List ℕ × List ℕ). λ (b : List ℕ × List ℕ). repeated
+    (literal_at v size) h.constraints b.1 >>= Four l o b in
     let Two = λ (l : List Latch × State). λ (o : List ℕ × List ℕ). repeated (literal_at v size) h.bads o.1 >>= Three l o in
     let One = λ (l : List Latch × State). repeated (literal_at v size) h.outputs l.1.rest >>= Two l in
     bind_then (repeated (latch_at v size) h.latches (before_latches h bytes)) One y e (λ l latches e1.
@@ -93,14 +97,17 @@ sections_read size h bytes p tail e =
     bind_then (repeated (gate_at size) h.gates (before_gates h c.1)) (Five l o b c) y e4 (λ g gates e5.
     record { l = l; o = o; b = b; c = c; g = g; latches = latches; outputs = outputs; bads = bads; constraints = constraints; gates = gates; whole = e5 })))))
 
-sections_spelled : (size : ℕ) (h : Header) (bytes : List ℕ) (p : Parts) (tail : List ℕ) (r : ReadsSections size h bytes p tail) → TakesSections h bytes (lists_of h r.l.0 r.o.0 r.b.0 r.c.0 r.g.0) r.g.1.rest
+sections_spelled : (size : ℕ) (h : Header) (bytes : List ℕ) (p : Parts) (tail : List ℕ) (r : ReadsSections size h bytes p tail)
+    → TakesSections h bytes (lists_of h r.l.0 r.o.0 r.b.0 r.c.0 r.g.0) r.g.1.rest
 sections_spelled size h bytes p tail r =
     let v = h.vars in
-    let latches = section_takes (latch_at v size) IsLatchLine (HasNextInRange v) (λ k. k.lit) (latch_step v size) h.latches (before_latches h bytes) r.l.0 r.l.1 (omega arith) r.latches in
+    let latches = section_takes (latch_at v size) IsLatchLine (HasNextInRange v) (λ k. k.lit) (latch_step v size) h.latches
+    (before_latches h bytes) r.l.0 r.l.1 (omega arith) r.latches in
     let outputs = literals_take v size h.outputs r.l.1.rest r.o.0 r.o.1 r.outputs in
     let bads = literals_take v size h.bads r.o.1 r.b.0 r.b.1 r.bads in
     let constraints = literals_take v size h.constraints r.b.1 r.c.0 r.c.1 r.constraints in
-    let gates = section_takes (gate_at size) IsGateText AnyGate (λ g. g.lhs) (gate_step size) h.gates (before_gates h r.c.1) r.g.0 r.g.1 (omega arith) r.gates in
+    let gates = section_takes (gate_at size) IsGateText AnyGate (λ g. g.lhs) (gate_step size) h.gates
+    (before_gates h r.c.1) r.g.0 r.g.1 (omega arith) r.gates in
     record {
       rest1 = r.l.1.rest;
       rest2 = r.o.1;
@@ -112,17 +119,28 @@ sections_spelled size h bytes p tail r =
       bads = bads.0;
       constraints = constraints.0;
       gates = gates.0;
-      counts = record { vars = refl; inputs = length-map-range_with_len (λ i. 2 * i) 1 h.inputs; latches = latches.2; outputs = outputs.1; bad_lines = bads.1; constraints = constraints.1; gates = gates.2 };
+      counts = record {
+        vars = refl;
+        inputs = length-map-range_with_len
+            (λ i. 2 * i) 1 h.inputs;
+        latches = latches.2;
+        outputs = outputs.1;
+        bad_lines = bads.1;
+        constraints = constraints.1;
+        gates = gates.2;
+      };
       properties = refl;
       input_order = inputs_counted 1 h.inputs;
       latch_order = latches.1;
       gate_order = gates.1;
     }
 
-pub sections_take : (size : ℕ) (h : Header) (bytes : List ℕ) (p : Parts) (tail : List ℕ) → sections_at size h bytes ≡ Ok (p, tail) → TakesSections h bytes p tail
+pub sections_take : (size : ℕ) (h : Header) (bytes : List ℕ) (p : Parts) (tail : List ℕ) → sections_at size h bytes ≡ Ok (p, tail)
+    → TakesSections h bytes p tail
 sections_take size h bytes p tail e =
     let r = sections_read size h bytes p tail e in
-    subst (λ (q : Parts × List ℕ). TakesSections h bytes q.0 q.1) (ok_is (lists_of h r.l.0 r.o.0 r.b.0 r.c.0 r.g.0, r.g.1.rest) (p, tail) r.whole) (sections_spelled size h bytes p tail r)
+    subst (λ (q : Parts × List ℕ). TakesSections h bytes q.0 q.1)
+    (ok_is (lists_of h r.l.0 r.o.0 r.b.0 r.c.0 r.g.0, r.g.1.rest) (p, tail) r.whole) (sections_spelled size h bytes p tail r)
 
 -- ---- literals are in range, and the lists make a design
 
@@ -131,10 +149,12 @@ module _ (h : Header) (bytes : List ℕ) (p : Parts) (tail : List ℕ) where
   sections_order t = record {
     inputs = counted_numbered (λ l. l) (2 * 1) 1 p.inputs refl t.input_order;
     latches = counted_numbered (λ (k : Latch). k.lit) (2 * (h.inputs + 1)) (h.inputs + 1) p.latches refl t.latch_order;
-    gates = counted_numbered (λ (g : AndGate). g.lhs) (2 * (h.inputs + h.latches + 1)) (h.inputs + h.latches + 1) p.gates refl t.gate_order;
+    gates = counted_numbered (λ (g : AndGate). g.lhs) (2 * (h.inputs + h.latches + 1))
+        (h.inputs + h.latches + 1) p.gates refl t.gate_order;
   }
 
-  gates_in_range : (gs : List AndGate) → AllByRecursion (λ g. IsNew h.vars g.lhs) gs → AllByRecursion IsAbove gs → AllByRecursion (IsGateInRange h.vars) gs
+  gates_in_range : (gs : List AndGate) → AllByRecursion (λ g. IsNew h.vars g.lhs) gs → AllByRecursion IsAbove gs
+      → AllByRecursion (IsGateInRange h.vars) gs
   gates_in_range gs new above =
       all_with (λ (g : AndGate). IsNew h.vars g.lhs) IsAbove (IsGateInRange h.vars)
       (λ g n a. record { lhs = n; rhs0 = omega (arith, n.within, a.rhs0); rhs1 = omega (arith, n.within, a.rhs1) }) gs new above
@@ -146,11 +166,14 @@ module _ (h : Header) (bytes : List ℕ) (p : Parts) (tail : List ℕ) where
   sections_range t sum few =
       let n = t.counts in
       let inputs = counted_new (λ l. l) h.vars (2 * 1) 1 p.inputs refl (omega arith) (omega (arith, n.inputs)) t.input_order in
-      let latches = counted_new (λ (k : Latch). k.lit) h.vars (2 * (h.inputs + 1)) (h.inputs + 1) p.latches refl (omega arith) (omega (arith, n.latches)) t.latch_order in
-      let gates = counted_new (λ (g : AndGate). g.lhs) h.vars (2 * (h.inputs + h.latches + 1)) (h.inputs + h.latches + 1) p.gates refl (omega arith) (omega (arith, n.gates)) t.gate_order in
+      let latches = counted_new (λ (k : Latch). k.lit) h.vars (2 * (h.inputs + 1)) (h.inputs + 1) p.latches refl (omega arith)
+      (omega (arith, n.latches)) t.latch_order in
+      let gates = counted_new (λ (g : AndGate). g.lhs) h.vars (2 * (h.inputs + h.latches + 1))
+      (h.inputs + h.latches + 1) p.gates refl (omega arith) (omega (arith, n.gates)) t.gate_order in
       range_of_lists h.vars p n.vars (omega arith) (record {
         inputs = inputs;
-        latches = all_with (λ (k : Latch). IsNew h.vars k.lit) (HasNextInRange h.vars) (IsLatchInRange h.vars) (λ k new next. record { lit = new; next = next }) p.latches latches t.latches.range;
+        latches = all_with (λ (k : Latch). IsNew h.vars k.lit) (HasNextInRange h.vars) (IsLatchInRange h.vars)
+            (λ k new next. record { lit = new; next = next }) p.latches latches t.latches.range;
         outputs = t.outputs.range;
         bads = properties_used h.vars h.bads p.bads p.outputs t.bad_lits t.properties t.outputs.range t.bads.range;
         constraints = t.constraints.range;
@@ -161,9 +184,14 @@ module _ (h : Header) (bytes : List ℕ) (p : Parts) (tail : List ℕ) where
   sections_all t sum =
       let n = t.counts in
       let whole : h.inputs + h.latches + h.gates ≡ p.vars = omega (arith, n.vars) in
-      let inputs : map variable p.inputs ≡ range_with_len 1 h.inputs = counted_range (λ l. l) (2 * 1) 1 p.inputs refl t.input_order ∙ ap (λ (k : ℕ). range_with_len 1 k) n.inputs in
-      let latches : map (λ (k : Latch). variable k.lit) p.latches ≡ range_with_len (h.inputs + 1) h.latches = counted_range (λ (k : Latch). k.lit) (2 * (h.inputs + 1)) (h.inputs + 1) p.latches refl t.latch_order ∙ ap (λ (k : ℕ). range_with_len (h.inputs + 1) k) n.latches in
-      let gates : map gate_var p.gates ≡ range_with_len (h.inputs + h.latches + 1) h.gates = counted_range (λ (g : AndGate). g.lhs) (2 * (h.inputs + h.latches + 1)) (h.inputs + h.latches + 1) p.gates refl t.gate_order ∙ ap (λ (k : ℕ). range_with_len (h.inputs + h.latches + 1) k) n.gates in
+      let inputs : map variable p.inputs ≡ range_with_len 1 h.inputs = counted_range (λ l. l)
+      (2 * 1) 1 p.inputs refl t.input_order ∙ ap (λ (k : ℕ). range_with_len 1 k) n.inputs in
+      let latches : map (λ (k : Latch). variable k.lit) p.latches ≡ range_with_len (h.inputs + 1) h.latches = counted_range
+      (λ (k : Latch). k.lit) (2 * (h.inputs + 1)) (h.inputs + 1) p.latches refl t.latch_order
+      ∙ ap (λ (k : ℕ). range_with_len (h.inputs + 1) k) n.latches in
+      let gates : map gate_var p.gates ≡ range_with_len (h.inputs + h.latches + 1) h.gates = counted_range
+      (λ (g : AndGate). g.lhs) (2 * (h.inputs + h.latches + 1)) (h.inputs + h.latches + 1) p.gates refl t.gate_order
+      ∙ ap (λ (k : ℕ). range_with_len (h.inputs + h.latches + 1) k) n.gates in
       subst (λ (k : ℕ). AreAll k p) whole (are_all h.inputs h.latches h.gates p inputs latches gates)
 
   pub sections_design : TakesSections h bytes p tail → definition_count h ≡ h.vars → h.vars ≤ 500000 → MakesDesign p
@@ -182,13 +210,21 @@ pub record TakesFile (bytes : List ℕ) (f : File) : Type 0 where
 pub file_takes : (bytes : List ℕ) (f : File) → file_at bytes ≡ Ok f → TakesFile bytes f
 unfolding file_at
 file_takes bytes f e =
-    let Second = λ (head : Header × List ℕ). λ (lists : Parts × List ℕ). Ok (record { head = head.0; parts = lists.0; tail = lists.1 }) in
+    let Second = λ (head : Header × List ℕ). λ (lists : Parts × List ℕ). Ok
+    (record { head = head.0; parts = lists.0; tail = lists.1 }) in
     let First = λ (head : Header × List ℕ). sections_at (length bytes) head.0 head.1 >>= Second head in
     bind_then (header_at Binary bytes) First f e (λ head header e1.
     bind_then (sections_at (length bytes) head.0 head.1) (Second head) f e1 (λ lists sections e2.
     let file : File = record { head = head.0; parts = lists.0; tail = lists.1 } in
     let h = header_takes Binary bytes head.0 head.1 header in
-    let taken : TakesFile bytes file = record { rest = head.1; header = h.0; limits = h.1; small = h.2; sections = sections_take (length bytes) head.0 head.1 lists.0 lists.1 sections } in
+    let taken : TakesFile bytes file = record {
+      rest = head.1;
+      header = h.0;
+      limits = h.1;
+      small = h.2;
+      sections = sections_take
+          (length bytes) head.0 head.1 lists.0 lists.1 sections;
+    } in
     subst (λ (k : File). TakesFile bytes k) (ok_is file f e2) taken))
 
 pub file_range : (bytes : List ℕ) (f : File) → file_at bytes ≡ Ok f → AreInRange f.parts

@@ -5,4 +5,4 @@ pub mod LatchLemmas
 pub mod GateLemmas
 pub mod FileLemmas
 pub mod SpellLemmas
-pub mod FaultLemmas
+pub mod RefusalLemmas

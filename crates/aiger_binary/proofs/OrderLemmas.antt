@@ -33,20 +33,24 @@ module _ {X : Type 0} (literal_of : X → ℕ) where
       let next : 2 * (first + 1) ≡ 2 * first + 2 = omega arith in
       (one, subst (λ (l : ℕ). AreCounted literal_of l xs) next (numbered_counted (first + 1) xs others))
 
-  pub counted_numbered : (l first : ℕ) (xs : List X) → l ≡ 2 * first → AreCounted literal_of l xs → AreNumbered literal_of first xs
+  pub counted_numbered : (l first : ℕ) (xs : List X) → l ≡ 2 * first → AreCounted literal_of l xs
+      → AreNumbered literal_of first xs
   counted_numbered l first [] e h i x at = absurd cc
   counted_numbered l first (y ∷ ys) e h zero x at = ap literal_of (sym (same_Some y x at)) ∙ h.0 ∙ omega arith
-  counted_numbered l first (y ∷ ys) e h (suc i) x at = counted_numbered (l + 2) (first + 1) ys (omega arith) h.1 i x at ∙ omega arith
+  counted_numbered l first (y ∷ ys) e h (suc i) x at = counted_numbered (l + 2) (first + 1) ys (omega arith) h.1 i x at
+      ∙ omega arith
 
   -- their variables
-  pub counted_range : (l first : ℕ) (xs : List X) → l ≡ 2 * first → AreCounted literal_of l xs → map (λ x. variable (literal_of x)) xs ≡ range_with_len first (length xs)
+  pub counted_range : (l first : ℕ) (xs : List X) → l ≡ 2 * first → AreCounted literal_of l xs
+      → map (λ x. variable (literal_of x)) xs ≡ range_with_len first (length xs)
   counted_range l first [] e h = refl
   counted_range l first (x ∷ xs) e h =
       let one : variable (literal_of x) ≡ first = omega (arith, h.0) in
       let others = counted_range (l + 2) (first + 1) xs (omega arith) h.1 in
       rw (one, others) refl
 
-  pub counted_new : (vars l first : ℕ) (xs : List X) → l ≡ 2 * first → 0 < first → first + length xs ≤ vars + 1 → AreCounted literal_of l xs → AllByRecursion (λ x. IsNew vars (literal_of x)) xs
+  pub counted_new : (vars l first : ℕ) (xs : List X) → l ≡ 2 * first → 0 < first → first + length xs ≤ vars + 1
+      → AreCounted literal_of l xs → AllByRecursion (λ x. IsNew vars (literal_of x)) xs
   counted_new vars l first [] e pos most h = tt
   counted_new vars l first (x ∷ xs) e pos most h = (
     record { even = omega (arith, h.0); above = omega (arith, h.0); within = omega (arith, h.0) },
@@ -54,7 +58,8 @@ module _ {X : Type 0} (literal_of : X → ℕ) where
   )
 
 -- inputs are their numbers
-pub counted_inputs : (first : ℕ) (ls : List ℕ) → AreCounted (λ l. l) (2 * first) ls → ls ≡ map (λ v. 2 * v) (range_with_len first (length ls))
+pub counted_inputs : (first : ℕ) (ls : List ℕ) → AreCounted (λ l. l) (2 * first) ls
+    → ls ≡ map (λ v. 2 * v) (range_with_len first (length ls))
 counted_inputs first [] h = refl
 counted_inputs first (l ∷ ls) h =
     let next : 2 * first + 2 ≡ 2 * (first + 1) = omega arith in
@@ -63,8 +68,11 @@ counted_inputs first (l ∷ ls) h =
 pub inputs_counted : (first n : ℕ) → AreCounted (λ l. l) (2 * first) (map (λ v. 2 * v) (range_with_len first n))
 inputs_counted first zero = tt
 inputs_counted first (suc n) =
-    let next : 2 * (first + 1) ≡ 2 * first + 2 = omega arith in
-    (refl, subst (λ (k : ℕ). AreCounted (λ l. l) k (map (λ v. 2 * v) (range_with_len (first + 1) n))) next (inputs_counted (first + 1) n))
+    let next : 2 * (first + 1) ≡ 2 * first + 2 = omega arith in (
+      refl,
+      subst (λ (k : ℕ). AreCounted (λ l. l) k (map (λ v. 2 * v) (range_with_len (first + 1) n))) next
+          (inputs_counted (first + 1) n),
+    )
 
 range-append : (a m n : ℕ) → range_with_len a m ++ range_with_len (a + m) n ≡ range_with_len a (m + n)
 range-append a zero n =
@@ -82,7 +90,9 @@ range-append a (suc m) n =
 pub AreAll : ℕ → Parts → Type 0
 AreAll n p = definitions (netlist_of p) ≡ range_with_len 1 n
 
-pub are_all : (i l g : ℕ) (p : Parts) → map variable p.inputs ≡ range_with_len 1 i → map (λ (k : Latch). variable k.lit) p.latches ≡ range_with_len (i + 1) l → map gate_var p.gates ≡ range_with_len (i + l + 1) g → AreAll (i + l + g) p
+pub are_all : (i l g : ℕ) (p : Parts) → map variable p.inputs ≡ range_with_len 1 i
+    → map (λ (k : Latch). variable k.lit) p.latches ≡ range_with_len (i + 1) l
+    → map gate_var p.gates ≡ range_with_len (i + l + 1) g → AreAll (i + l + g) p
 unfolding AreAll
 are_all i l g p inputs latches gates =
     let second : i + 1 ≡ 1 + i = omega arith in
@@ -93,7 +103,8 @@ pub all_once : (n : ℕ) (p : Parts) → AreAll n p → AreOnce p
 unfolding AreAll
 all_once n p e v twice =
     let within : twice.other < n = omega (arith, ap length e, length-range_with_len 1 n, twice.within) in
-    let one = ap (λ (k : List ℕ). slice_index k twice.one) e ∙ get_or-range_with_len 1 n twice.one 0 (omega (arith, twice.apart)) in
+    let one = ap (λ (k : List ℕ). slice_index k twice.one) e
+    ∙ get_or-range_with_len 1 n twice.one 0 (omega (arith, twice.apart)) in
     let other = ap (λ (k : List ℕ). slice_index k twice.other) e ∙ get_or-range_with_len 1 n twice.other 0 within in
     omega (arith, one, other, twice.one_is, twice.other_is, twice.apart)
 
@@ -117,7 +128,8 @@ unfolding AreAll
 all_defined p range e v u =
     let has = Has-from_Contains (map variable (uses p)) v u.used in
     let within : v ≤ p.vars = all_at (λ (w : ℕ). w ≤ p.vars) (map variable (uses p)) (used_within p range) has.0 v has.1 in
-    let there : list_any (λ u. eqb u v) (definitions (netlist_of p)) ≡ true = rw e (any_range 1 p.vars v (omega (arith, u.above)) (omega arith)) in
+    let there : list_any (λ u. eqb u v) (definitions (netlist_of p)) ≡ true = rw e
+    (any_range 1 p.vars v (omega (arith, u.above)) (omega arith)) in
     absurd (cc (there, u.undefined))
 
 -- ---- no gate depends on itself
@@ -136,7 +148,8 @@ leads_down gates above u w h =
     ]
 
 -- along a path the variables fall
-path_falls : (gates : List AndGate) → AllByRecursion IsAbove gates → (path : List ℕ) → IsPath gates path → (i j : ℕ) → i < j → j < length path → slice_index path j < slice_index path i
+path_falls : (gates : List AndGate) → AllByRecursion IsAbove gates → (path : List ℕ) → IsPath gates path → (i j : ℕ) → i < j
+    → j < length path → slice_index path j < slice_index path i
 path_falls gates above [] h i j lt within = absurd (omega arith)
 path_falls gates above (u ∷ []) h i j lt within = absurd (omega arith)
 path_falls gates above (u ∷ w ∷ path) h i zero lt within = absurd (omega arith)
@@ -145,7 +158,8 @@ path_falls gates above (u ∷ w ∷ path) h zero (suc (suc j)) lt within =
     let first = leads_down gates above u w h.0 in
     let others = path_falls gates above (w ∷ path) h.1 0 (suc j) (omega arith) (omega arith) in
     omega (arith, first, others)
-path_falls gates above (u ∷ w ∷ path) h (suc i) (suc j) lt within = path_falls gates above (w ∷ path) h.1 i j (omega arith) (omega arith)
+path_falls gates above (u ∷ w ∷ path) h (suc i) (suc j) lt within = path_falls gates above (w ∷ path) h.1 i j (omega arith)
+    (omega arith)
 
 pub makes_design : (p : Parts) → AreInRange p → AreAll p.vars p → AllByRecursion IsAbove p.gates → MakesDesign p
 makes_design p range all above = record {

@@ -7,6 +7,7 @@ use Rattle.aig_model.specs.declared.netlist.Parts.{Parts}
 use Rattle.aig_model.specs.Netlist.{circuit}
 use Rattle.aig_model.specs.Refusals.{netlist_of, AreInRange}
 use Rattle.aiger_lines.specs.declared.form.Form.TheVariants.{Binary}
+use Rattle.aiger_lines.specs.declared.limits.TheConstants.{MOST_BYTES}
 use Rattle.aiger_lines.specs.declared.sizes.Header.{Header}
 use Rattle.aiger_lines.specs.Header.{IsHeaderLine, IsWithinLimits}
 use Rattle.aiger_lines.specs.Lines.{AreLines, IsLiteralLine, HasReset}
@@ -75,7 +76,7 @@ pub record Spells (bytes : List ℕ) (p : Parts) : Type 0 where
   pub counts : Counts head p bads
   pub order : AreInOrder head p
   pub properties : p.bads ≡ (if head.bads == 0 then p.outputs else bads)
-  pub file : length bytes ≤ 67108864
+  pub file : length bytes ≤ MOST_BYTES
   pub limits : IsWithinLimits Binary head
   pub range : AreInRange p
 

@@ -1,4 +1,4 @@
 pub mod Delta
 pub mod Grammar
 pub mod Reading
-pub mod FirstFault
+pub mod FirstRefusal

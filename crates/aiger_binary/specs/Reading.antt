@@ -1,4 +1,4 @@
--- The sections of a file, read from left to right: their lists, or the first fault that is met.
+-- The sections of a file, read from left to right: their lists, or the first refusal that is met.
 use Rattle.std.specs.Prelude.{ℕ, zero, suc, ◌+◌, ◌-◌, ◌*◌, ◌%◌, ◌==◌, ◌&&◌, nat_lt, nat_le, if◌then◌else◌, List, [], ◌∷◌, length, map, Result, Ok, Err}
 use Rattle.std.specs.List.{range_with_len}
 use Rattle.ja_text.specs.Reading.{◌>>=◌}
@@ -12,6 +12,7 @@ use Rattle.aiger_lines.specs.declared.refusal.ReadRefusal.{ReadRefusal}
 use Rattle.aiger_lines.specs.declared.refusal.ReadRefusal.TheVariants as refusal
 use Rattle.aiger_lines.specs.Reading.{place, numbers_at, used_at, reset_at, literal_at, header_at}
 use Rattle.aiger_lines.specs.Files.{File}
+use Rattle.aiger_binary.specs.declared.delta.TheConstants.{MOST_DELTA_BYTES}
 
 -- the literal that is defined next, and the bytes that are left
 pub record State : Type 0 where
@@ -50,11 +51,12 @@ latch_at vars size s = do
 abbrev pub groups_at : ℕ → ℕ → ℕ → List ℕ → Result (ℕ × List ℕ) ReadRefusal
 groups_at size at zero bytes = Err (refusal.Line at)
 groups_at size at (suc most) [] = Err (refusal.Short size)
-groups_at size at (suc most) (b ∷ bs) = if nat_lt b 128 then Ok (b, bs) else groups_at size at most bs >>= λ r. Ok (b % 128 + 128 * r.0, r.1)
+groups_at size at (suc most) (b ∷ bs) = if nat_lt b 128 then Ok (b, bs) else groups_at size at most bs >>= λ r. Ok
+    (b % 128 + 128 * r.0, r.1)
 
 -- the delta at the front, and what follows it
 unfoldable pub delta_at : ℕ → List ℕ → Result (ℕ × List ℕ) ReadRefusal
-delta_at size bytes = groups_at size (place size bytes) 5 bytes
+delta_at size bytes = groups_at size (place size bytes) MOST_DELTA_BYTES bytes
 
 -- the literal that is below this one by at least so much, as the delta at the front says
 unfoldable pub right_at : ℕ → ℕ → ℕ → List ℕ → Result (ℕ × List ℕ) ReadRefusal

@@ -1,30 +1,29 @@
 ghost use Rattle.std.specs.Prelude.{◌≡◌, ◌+◌, ◌*◌, ◌^◌, ◌<◌};
 ghost use Rattle.ja_text.specs.Reading.{Gives};
 ghost use Rattle.ja_text.specs.Repeated.{repeated};
-ghost use Rattle.aiger_lines.specs.Reading.{Reads};
 ghost use Rattle.aiger_binary.specs.Reading.{latch_numbers, latch_from, latch_at};
 
 use aig_model::{Latch, Latches};
-use aiger_lines::{ReadRefusal, numbers, place, reset, used_literal};
+use aiger_lines::{Read, ReadRefusal, numbers, place, reset, used_literal};
 use ja_base::{Lit, OrMemory};
 use ja_text::Numbers;
 use std::alloc::Global;
 
 /// The literal of a latch's next state, and its reset, which is 0 where it is left out.
-fn split(at: usize, numbers: &Numbers) -> Result<(u64, u64), ReadRefusal>
-    ensures { Reads (λ x. x) result (latch_numbers at numbers.now) }
+fn split(at: usize, numbers: &Numbers) -> Read<(u64, u64)>
+    ensures { Gives (λ x. x) result (latch_numbers at numbers.now) }
 {
     match numbers.as_slice() {
         [next] => Ok((*next, 0)),
         [next, reset] => Ok((*next, *reset)),
-        _ => Err(ReadRefusal::Line { at }),
+        _ => Err(OrMemory::Refused(ReadRefusal::Line { at })),
     }
 }
 
 #[tactic(auto, unfolding(crate::specs::Reading::latch_from))]
-fn latch_of(vars: u32, lit: Lit, at: usize, numbers: &Numbers) -> Result<Latch, ReadRefusal>
+fn latch_of(vars: u32, lit: Lit, at: usize, numbers: &Numbers) -> Read<Latch>
     requires { vars < 2 ^ 31 }
-    ensures { Reads (λ k. k) result (latch_from vars lit at numbers.now) }
+    ensures { Gives (λ k. k) result (latch_from vars lit at numbers.now) }
 {
     let (next, number) = split(at, numbers)?;
     let next = used_literal(vars, at, next)?;
@@ -33,9 +32,10 @@ fn latch_of(vars: u32, lit: Lit, at: usize, numbers: &Numbers) -> Result<Latch, 
 }
 
 #[tactic(auto, unfolding(crate::specs::Reading::latch_at))]
-fn latch(vars: u32, lit: Lit, size: usize, rest: &mut &[u8]) -> Result<Latch, ReadRefusal>
+fn latch(vars: u32, lit: Lit, size: usize, rest: &mut &[u8]) -> Read<Latch>
     requires { vars < 2 ^ 31 }
-    ensures { Reads (λ k. (k, record { lit = lit + 2; rest = rest.new.now })) result (latch_at vars size (record { lit = lit; rest = rest.old.now })) }
+    ensures { Gives (λ k. (k, record { lit = lit + 2; rest = rest.new.now })) result
+        (latch_at vars size (record { lit = lit; rest = rest.old.now })) }
 {
     let at = place(size, *rest);
     let numbers = numbers(size, rest)?;
@@ -50,10 +50,11 @@ pub fn latches(
     count: u32,
     size: usize,
     rest: &mut &[u8],
-) -> Result<Latches, OrMemory<ReadRefusal>>
+) -> Read<Latches>
     requires small { vars < 2 ^ 31 }
     requires fit { first + count < 2 ^ 30 }
-    ensures { Gives (λ ks. (ks, record { lit = 2 * (first + count); rest = rest.new.now })) result (repeated (latch_at vars size) count (record { lit = 2 * first; rest = rest.old.now })) }
+    ensures { Gives (λ ks. (ks, record { lit = 2 * (first + count); rest = rest.new.now })) result
+        (repeated (latch_at vars size) count (record { lit = 2 * first; rest = rest.old.now })) }
 {
     let mut latches = Latches::new(alloc);
     for index in 0..count {

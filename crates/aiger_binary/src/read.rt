@@ -8,18 +8,19 @@ ghost use Rattle.aig_model.specs.Netlist.{circuit};
 ghost use Rattle.aig_model.specs.Refusals.{netlist_of, AreInRange, MakesDesign};
 ghost use Rattle.aiger_binary.specs.Grammar.{IsBinaryDesign};
 ghost use Rattle.aiger_binary.specs.Reading.{file_at};
-ghost use Rattle.aiger_binary.specs.FirstFault.{IsFirstFault};
+ghost use Rattle.aiger_binary.specs.FirstRefusal.{IsFirstRefusal};
 
 use crate::sections::sections;
 use aig_model::{Design, Parts};
-use aiger_lines::{Form, Header, ReadRefusal, bad_line, place, read_header};
+use aiger_lines::{Form, Header, Read, ReadRefusal, bad_line, place, read_header};
 use ja_base::{Memory, OrMemory};
 use std::alloc::Global;
 
 /// The sizes and the lists of a file. What is left follows the gates.
 #[tactic(auto, unfolding(crate::specs::Reading::file_at))]
-fn file(alloc: Global, rest: &mut &[u8]) -> Result<(Header, Parts), OrMemory<ReadRefusal>>
-    ensures { Gives (λ x. record { head = x.0; parts = x.1; tail = rest.new.now }) result (file_at rest.old.now) }
+fn file(alloc: Global, rest: &mut &[u8]) -> Read<(Header, Parts)>
+    ensures { Gives (λ x. record { head = x.0; parts = x.1; tail = rest.new.now }) result
+        (file_at rest.old.now) }
 {
     let size = rest.len();
     let header = read_header(Form::Binary, rest)?;
@@ -40,10 +41,10 @@ fn design(alloc: Global, parts: Parts) -> Result<Design, Memory>
     }
 }
 
-/// The design of a file, or its first fault.
-fn whole(alloc: Global, bytes: &[u8]) -> Result<Design, OrMemory<ReadRefusal>>
+/// The design of a file, or its first refusal.
+fn whole(alloc: Global, bytes: &[u8]) -> Read<Design>
     ensures found { IfOk result (λ d. IsBinaryDesign bytes.now (circuit d)) }
-    ensures refused { IfRefused result (IsFirstFault bytes.now) }
+    ensures refused { IfRefused result (IsFirstRefusal bytes.now) }
 {
     let mut rest = bytes;
     let (header, parts) = file(alloc, &mut rest)?;
@@ -57,14 +58,15 @@ fn whole(alloc: Global, bytes: &[u8]) -> Result<Design, OrMemory<ReadRefusal>>
 }
 
 /// The design that the bytes spell.
-pub fn read_binary(alloc: Global, bytes: &[u8]) -> Result<Design, OrMemory<ReadRefusal>>
+pub fn read_binary(alloc: Global, bytes: &[u8]) -> Read<Design>
     // What is read is spelled so.
     ensures found { IfOk result (λ d. IsBinaryDesign bytes.now (circuit d)) }
     // What is spelled so is read, unless memory runs out.
     ensures only { (c : Circuit) → IsBinaryDesign bytes.now c → IfOk result (λ d. circuit d ≡ c) }
-    ensures spelled_is_not_refused { (c : Circuit) → IsBinaryDesign bytes.now c → IfRefused result (λ _. ⊥) }
+    ensures not_refused { (c : Circuit) → IsBinaryDesign bytes.now c
+        → IfRefused result (λ _. ⊥) }
     // Which refusal it is.
-    ensures refused { IfRefused result (IsFirstFault bytes.now) }
+    ensures refused { IfRefused result (IsFirstRefusal bytes.now) }
 {
     whole(alloc, bytes)
 }

@@ -9,17 +9,11 @@ use crate::gates::gates;
 use crate::inputs::inputs;
 use crate::latches::latches;
 use aig_model::Parts;
-use aiger_lines::{Header, ReadRefusal, literals, properties};
-use ja_base::OrMemory;
+use aiger_lines::{Header, Read, literals, properties};
 use std::alloc::Global;
 
 #[tactic(auto, unfolding(crate::specs::Reading::sections_at))]
-pub fn sections(
-    alloc: Global,
-    size: usize,
-    header: &Header,
-    rest: &mut &[u8],
-) -> Result<Parts, OrMemory<ReadRefusal>>
+pub fn sections(alloc: Global, size: usize, header: &Header, rest: &mut &[u8]) -> Read<Parts>
     requires { IsWithinLimits Binary header.now }
     ensures { Gives (λ p. (p, rest.new.now)) result (sections_at size header.now rest.old.now) }
 {

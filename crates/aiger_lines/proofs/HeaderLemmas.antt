@@ -1,14 +1,14 @@
 -- A header is read as it is spelled, and what is spelled so is read so.
-use Rattle.std.proofs.Common.{◌≡◌, ℕ, ◌≤◌, Bool, true, false, not, cond, ltb, List, [], ◌∷◌, ◌++◌, length, Some, None, Result, Ok, Err, refl, sym, ap, subst, ◌∙◌, append_assoc, arith}
+use Rattle.std.proofs.Common.{◌≡◌, ℕ, ◌≤◌, Bool, true, false, not, cond, ltb, List, ◌∷◌, ◌++◌, length, Some, None, Result, Ok, Err, refl, sym, ap, subst, ◌∙◌, append_assoc, arith}
 use Rattle.std.specs.Prelude.{option_and_then, ok_or, ◌||◌}
 use Rattle.std.proofs.lemmas.Bool.{eqb-true}
 use Rattle.std.proofs.lemmas.Bool.Decides.{nat_tests}
-use Rattle.std.proofs.lemmas.Option.{option_and_then_some, same_Some}
+use Rattle.std.proofs.lemmas.Option.{option_and_then_some}
 use Rattle.ja_text.specs.Forms.{BeginsWith}
-use Rattle.ja_text.specs.Lines.{byte_at, space_at}
+use Rattle.ja_text.specs.Lines.{space_at, word_at}
 use Rattle.ja_text.specs.Rows.{TakesRow, row_at}
 use Rattle.ja_text.specs.Reading.{◌>>=◌}
-use Rattle.ja_text.proofs.ByteLemmas.{byte_takes, byte_again}
+use Rattle.ja_text.proofs.ByteLemmas.{word_takes, word_again}
 use Rattle.ja_text.proofs.RowLemmas.{row_takes, row_again}
 use Rattle.ja_text.proofs.ReadingLemmas.{bind_ok, guard_ok, ok_is, ok_or_ok}
 use Rattle.aiger_lines.specs.declared.form.Form.{Form}
@@ -18,20 +18,10 @@ use Rattle.aiger_lines.specs.declared.refusal.ReadRefusal.{ReadRefusal}
 use Rattle.aiger_lines.specs.declared.refusal.ReadRefusal.TheVariants as refusal
 use Rattle.aiger_lines.specs.declared.refusal.Large.TheVariants as large
 use Rattle.aiger_lines.specs.Header.{word_of, header_of, IsHeaderLine, property_count, definition_count, FitsSum, IsWithinLimits}
-use Rattle.aiger_lines.specs.Reading.{word_at, sizes_of, header_line_at, fits_sum, taken_sizes, taken_file, header_at}
+use Rattle.aiger_lines.specs.Reading.{sizes_of, header_line_at, fits_sum, taken_sizes, taken_file, header_at}
 use Rattle.aiger_lines.proofs.TailLemmas.{space_is, space_again}
 
 -- ---- the line
-
-word_takes : (word bytes rest : List ℕ) → word_at word bytes ≡ Some rest → bytes ≡ word ++ rest
-word_takes [] bytes rest e = same_Some bytes rest e
-word_takes (b ∷ bs) bytes rest e =
-    option_and_then_some (word_at bs) (byte_at b bytes) rest e
-    (λ x h g. byte_takes b bytes x h ∙ ap (λ (k : List ℕ). b ∷ k) (word_takes bs x rest g))
-
-word_again : (word rest : List ℕ) → word_at word (word ++ rest) ≡ Some rest
-word_again [] rest = refl
-word_again (b ∷ bs) rest = rw (byte_again b (bs ++ rest)) (word_again bs rest)
 
 -- the bytes begin with a header line of these sizes
 abbrev pub TakesHeader : Form → List ℕ → Header → List ℕ → Type 0
@@ -47,33 +37,57 @@ some_if_not : {A : Type 0} (b : Bool) (x y : A) → cond b None (Some x) ≡ Som
 some_if_not true x y e = absurd cc
 some_if_not false x y e = (refl, cc)
 
-line_of : (form : Form) (bytes after row : List ℕ) (x : List ℕ × List ℕ) (h : Header) (rest : List ℕ) → bytes ≡ word_of form ++ after → after ≡ 32 ∷ row → TakesRow 9 row x.0 x.1
+line_of : (form : Form) (bytes after row : List ℕ) (x : List ℕ × List ℕ) (h : Header) (rest : List ℕ)
+    → bytes ≡ word_of form ++ after → after ≡ 32 ∷ row → TakesRow 9 row x.0 x.1
     → sizes_of x ≡ Some (h, rest) → TakesHeader form bytes h rest
 line_of form bytes after row x h rest parts next taken sizes =
     let s = some_if_not (ltb (length x.0) 5) (header_of x.0, x.1) (h, rest) sizes in
     let h-is : header_of x.0 ≡ h = ap (λ (p : Header × List ℕ). p.0) s.1 in
     let rest-is : x.1 ≡ rest = ap (λ (p : Header × List ℕ). p.1) s.1 in
-    let whole : bytes ≡ (word_of form ++ 32 ∷ taken.row.text) ++ rest = parts ∙ ap (λ (k : List ℕ). word_of form ++ k) (next ∙ ap (λ (k : List ℕ). 32 ∷ k) (taken.row.parts ∙ ap (λ (k : List ℕ). taken.row.text ++ k) rest-is)) ∙ sym (append_assoc (word_of form) (32 ∷ taken.row.text) rest) in
+    let whole : bytes ≡ (word_of form ++ 32 ∷ taken.row.text) ++ rest = parts
+    ∙ ap (λ (k : List ℕ). word_of form ++ k)
+    (next ∙ ap (λ (k : List ℕ). 32 ∷ k) (taken.row.parts ∙ ap (λ (k : List ℕ). taken.row.text ++ k) rest-is))
+    ∙ sym (append_assoc (word_of form) (32 ∷ taken.row.text) rest) in
     record {
       text = word_of form ++ 32 ∷ taken.row.text;
-      form = record { row = taken.row.text; numbers = x.0; text_is = refl; spelled = taken.row.form; five = five_or_more (length x.0) s.0; nine = taken.few; header_is = sym h-is };
+      form = record {
+        row = taken.row.text;
+        numbers = x.0;
+        text_is = refl;
+        spelled = taken.row.form;
+        five = five_or_more
+            (length x.0) s.0;
+        nine = taken.few;
+        header_is = sym h-is;
+      };
       parts = whole;
     }
 
-pub header_line_takes : (form : Form) (bytes : List ℕ) (h : Header) (rest : List ℕ) → header_line_at (word_of form) bytes ≡ Some (h, rest) → TakesHeader form bytes h rest
+pub header_line_takes : (form : Form) (bytes : List ℕ) (h : Header) (rest : List ℕ)
+    → header_line_at (word_of form) bytes ≡ Some (h, rest) → TakesHeader form bytes h rest
 unfolding header_line_at
 header_line_takes form bytes h rest e =
-    option_and_then_some sizes_of (option_and_then (row_at 9) (option_and_then space_at (word_at (word_of form) bytes))) (h, rest) e
+    option_and_then_some sizes_of (option_and_then (row_at 9) (option_and_then space_at (word_at (word_of form) bytes)))
+    (h, rest) e
     (λ x row sizes. option_and_then_some (row_at 9) (option_and_then space_at (word_at (word_of form) bytes)) x row
     (λ r space taken. option_and_then_some space_at (word_at (word_of form) bytes) r space
-    (λ after word next. line_of form bytes after r x h rest (word_takes (word_of form) bytes after word) (space_is after r next) (row_takes 9 r x taken) sizes)))
+    (λ after word next. line_of form bytes after r x h rest (word_takes (word_of form) bytes after word) (space_is after r next)
+    (row_takes 9 r x taken) sizes)))
 
-pub header_line_again : (form : Form) (text rest : List ℕ) (h : Header) → IsHeaderLine form text h → header_line_at (word_of form) (text ++ rest) ≡ Some (h, rest)
+pub header_line_again : (form : Form) (text rest : List ℕ) (h : Header) → IsHeaderLine form text h
+    → header_line_at (word_of form) (text ++ rest) ≡ Some (h, rest)
 unfolding header_line_at
 header_line_again form text rest h line =
-    let regrouped : text ++ rest ≡ word_of form ++ 32 ∷ (line.row ++ rest) = ap (λ (k : List ℕ). k ++ rest) line.text_is ∙ append_assoc (word_of form) (32 ∷ line.row) rest in
+    let regrouped : text ++ rest ≡ word_of form ++ 32 ∷ (line.row ++ rest) = ap (λ (k : List ℕ). k ++ rest) line.text_is
+    ∙ append_assoc (word_of form) (32 ∷ line.row) rest in
     ap (header_line_at (word_of form)) regrouped
-    ∙ rw (word_again (word_of form) (32 ∷ (line.row ++ rest)), space_again (line.row ++ rest), row_again 9 line.row line.numbers rest line.spelled line.nine, not_fewer (length line.numbers) line.five) (ap (λ (k : Header). Some (k, rest)) (sym line.header_is))
+    ∙ rw (
+      word_again (word_of form) (32 ∷ (line.row ++ rest)),
+      space_again (line.row ++ rest),
+      row_again 9 line.row line.numbers rest line.spelled line.nine,
+      not_fewer (length line.numbers) line.five,
+    )
+    (ap (λ (k : Header). Some (k, rest)) (sym line.header_is))
 
 -- ---- the sizes
 
@@ -135,15 +149,27 @@ sizes_take form h k e =
 pub sizes_again : (form : Form) (h : Header) → IsWithinLimits form h → taken_sizes form h ≡ Ok h
 unfolding taken_sizes
 sizes_again form h l =
-    rw (not_above h.vars 500000 l.vars, not_above h.justice 0 (omega (arith, l.justice)), not_above h.fairness 0 (omega (arith, l.fairness)), sum_again form h l.sum, not_above (property_count h) 20000 l.properties, not_above h.outputs 500000 l.outputs, not_above h.constraints 500000 l.constraints) refl
+    rw (
+      not_above h.vars 500000 l.vars,
+      not_above h.justice 0 (omega (arith, l.justice)),
+      not_above h.fairness 0 (omega (arith, l.fairness)),
+      sum_again form h l.sum,
+      not_above (property_count h) 20000 l.properties,
+      not_above h.outputs 500000 l.outputs,
+      not_above h.constraints 500000 l.constraints,
+    ) refl
 
 -- ---- all of it
 
-pub header_takes : (form : Form) (bytes : List ℕ) (h : Header) (rest : List ℕ) → header_at form bytes ≡ Ok (h, rest) → TakesHeader form bytes h rest × IsWithinLimits form h × (length bytes ≤ 67108864)
+pub header_takes : (form : Form) (bytes : List ℕ) (h : Header) (rest : List ℕ) → header_at form bytes ≡ Ok (h, rest)
+    → TakesHeader form bytes h rest × IsWithinLimits form h × (length bytes ≤ 67108864)
 unfolding header_at
 header_takes form bytes h rest e =
-    let a = bind_ok (taken_file bytes) (λ file. ok_or (header_line_at (word_of form) file) (refusal.Header 0) >>= λ line. taken_sizes form line.0 >>= λ sizes. Ok (sizes, line.1)) (h, rest) e in
-    let b = bind_ok (ok_or (header_line_at (word_of form) a.0) (refusal.Header 0)) (λ line. taken_sizes form line.0 >>= λ sizes. Ok (sizes, line.1)) (h, rest) a.2 in
+    let a = bind_ok (taken_file bytes)
+    (λ file. ok_or (header_line_at (word_of form) file) (refusal.Header 0) >>= λ line. taken_sizes form line.0 >>= λ sizes. Ok
+    (sizes, line.1)) (h, rest) e in
+    let b = bind_ok (ok_or (header_line_at (word_of form) a.0) (refusal.Header 0))
+    (λ line. taken_sizes form line.0 >>= λ sizes. Ok (sizes, line.1)) (h, rest) a.2 in
     let c = bind_ok (taken_sizes form b.0.0) (λ sizes. Ok (sizes, b.0.1)) (h, rest) b.2 in
     let small = guard_ok (ltb 67108864 (length bytes)) (refusal.TooLarge large.File) bytes a.0 a.1 in
     let line = ok_or_ok (header_line_at (word_of form) a.0) (refusal.Header 0) b.0 b.1 in
@@ -153,10 +179,14 @@ header_takes form bytes h rest e =
     let rest-is : b.0.1 ≡ rest = ap (λ (p : Header × List ℕ). p.1) last in
     let taken = header_line_takes form a.0 b.0.0 b.0.1 line in
     let one : TakesHeader form bytes b.0.0 b.0.1 = subst (λ (k : List ℕ). TakesHeader form k b.0.0 b.0.1) (sym small.1) taken in
-    let two : TakesHeader form bytes b.0.0 rest = subst (λ (k : List ℕ). TakesHeader form bytes b.0.0 k) rest-is one in
-    (subst (λ (k : Header). TakesHeader form bytes k rest) h-is two, subst (λ (k : Header). IsWithinLimits form k) h-is sizes.0, at_most (length bytes) 67108864 small.0)
+    let two : TakesHeader form bytes b.0.0 rest = subst (λ (k : List ℕ). TakesHeader form bytes b.0.0 k) rest-is one in (
+      subst (λ (k : Header). TakesHeader form bytes k rest) h-is two,
+      subst (λ (k : Header). IsWithinLimits form k) h-is sizes.0,
+      at_most (length bytes) 67108864 small.0,
+    )
 
-pub header_again : (form : Form) (text rest : List ℕ) (h : Header) → IsHeaderLine form text h → IsWithinLimits form h → length (text ++ rest) ≤ 67108864 → header_at form (text ++ rest) ≡ Ok (h, rest)
+pub header_again : (form : Form) (text rest : List ℕ) (h : Header) → IsHeaderLine form text h → IsWithinLimits form h
+    → length (text ++ rest) ≤ 67108864 → header_at form (text ++ rest) ≡ Ok (h, rest)
 unfolding header_at
 header_again form text rest h line limits small =
     rw (not_above (length (text ++ rest)) 67108864 small, header_line_again form text rest h line, sizes_again form h limits) refl

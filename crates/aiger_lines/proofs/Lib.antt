@@ -3,3 +3,4 @@ pub mod TailLemmas
 pub mod HeaderLemmas
 pub mod SectionLemmas
 pub mod PartsLemmas
+pub mod TailCases

@@ -14,12 +14,13 @@ use Rattle.aig_model.specs.declared.netlist.Reset.TheVariants.{Zero, One, Free}
 use Rattle.aiger_lines.specs.declared.refusal.ReadRefusal.{ReadRefusal}
 use Rattle.aiger_lines.specs.declared.refusal.ReadRefusal.TheVariants as refusal
 use Rattle.aiger_lines.specs.Lines.{AreLines, IsLiteralLine, IsUsed, TakesItem, TakesItems, reset_number}
-use Rattle.aiger_lines.specs.Reading.{place, line_fault, numbers_at, one_number, used_at, reset_at, literal_at}
+use Rattle.aiger_lines.specs.Reading.{place, line_refusal, numbers_at, one_number, used_at, reset_at, literal_at}
 
 -- ---- an item and a section
 
 module _ {X S : Type 0} (IsLine : List ℕ → X → Type 0) (InRange : X → Type 0) (P : S → X → S → Type 0) (left : S → List ℕ) where
-  pub items_from_chain : ((s : S) (x : X) (t : S) → P s x t → TakesItem IsLine InRange (left s) x (left t)) → (s : S) (xs : List X) (t : S) → Chain P s xs t
+  pub items_from_chain : ((s : S) (x : X) (t : S) → P s x t → TakesItem IsLine InRange (left s) x (left t))
+      → (s : S) (xs : List X) (t : S) → Chain P s xs t
       → TakesItems IsLine InRange (left s) xs (left t)
   items_from_chain each s [] t h = record { text = []; parts = ap left h; lines = refl; range = tt }
   items_from_chain each s (x ∷ xs) t h =
@@ -36,9 +37,11 @@ module _ {X S : Type 0} (IsLine : List ℕ → X → Type 0) (InRange : X → Ty
 
 pub numbers_take : (size : ℕ) (bytes ns rest : List ℕ) → numbers_at size bytes ≡ Ok (ns, rest) → TakesRow 9 bytes ns rest
 unfolding numbers_at
-numbers_take size bytes ns rest e = row_takes 9 bytes (ns, rest) (ok_or_ok (row_at 9 bytes) (line_fault size bytes) (ns, rest) e)
+numbers_take size bytes ns rest e = row_takes 9 bytes (ns, rest)
+    (ok_or_ok (row_at 9 bytes) (line_refusal size bytes) (ns, rest) e)
 
-pub numbers_again : (size : ℕ) (text ns rest : List ℕ) → IsRow text ns → length ns ≤ 9 → numbers_at size (text ++ rest) ≡ Ok (ns, rest)
+pub numbers_again : (size : ℕ) (text ns rest : List ℕ) → IsRow text ns → length ns ≤ 9
+    → numbers_at size (text ++ rest) ≡ Ok (ns, rest)
 unfolding numbers_at
 numbers_again size text ns rest h few = rw (row_again 9 text ns rest h few) refl
 
@@ -63,41 +66,61 @@ used_again vars at l h = rw (tests_at_most l (2 * vars + 1) h) refl
 
 -- ---- lines of a literal
 
-pub literal_takes : (vars size : ℕ) (bytes : List ℕ) (l : ℕ) (rest : List ℕ) → literal_at vars size bytes ≡ Ok (l, rest) → TakesItem IsLiteralLine (IsUsed vars) bytes l rest
+pub literal_takes : (vars size : ℕ) (bytes : List ℕ) (l : ℕ) (rest : List ℕ) → literal_at vars size bytes ≡ Ok (l, rest)
+    → TakesItem IsLiteralLine (IsUsed vars) bytes l rest
 unfolding literal_at
 literal_takes vars size bytes l rest e =
     let at = place size bytes in
-    let a = bind_ok (numbers_at size bytes) (λ row. one_number at row.0 >>= λ n. used_at vars at n >>= λ k. Ok (k, row.1)) (l, rest) e in
+    let a = bind_ok (numbers_at size bytes) (λ row. one_number at row.0 >>= λ n. used_at vars at n >>= λ k. Ok (k, row.1))
+    (l, rest) e in
     let b = bind_ok (one_number at a.0.0) (λ n. used_at vars at n >>= λ k. Ok (k, a.0.1)) (l, rest) a.2 in
     let c = bind_ok (used_at vars at b.0) (λ k. Ok (k, a.0.1)) (l, rest) b.2 in
     let last = ok_is (c.0, a.0.1) (l, rest) c.2 in
     let row = numbers_take size bytes a.0.0 a.0.1 a.1 in
     let used = used_takes vars at b.0 c.0 c.1 in
-    let form : IsLiteralLine row.row.text c.0 = subst (λ (ns : List ℕ). IsRow row.row.text ns) (one_takes at a.0.0 b.0 b.1 ∙ ap (λ (k : ℕ). k ∷ []) used.1) row.row.form in
-    let taken : TakesItem IsLiteralLine (IsUsed vars) bytes c.0 a.0.1 = record { line = row.row.text; parts = row.row.parts; form = form; range = used.0 } in
+    let form : IsLiteralLine row.row.text c.0 = subst (λ (ns : List ℕ). IsRow row.row.text ns)
+    (one_takes at a.0.0 b.0 b.1 ∙ ap (λ (k : ℕ). k ∷ []) used.1) row.row.form in
+    let taken : TakesItem IsLiteralLine
+    (IsUsed vars) bytes c.0 a.0.1 = record { line = row.row.text; parts = row.row.parts; form = form; range = used.0 } in
     subst (λ (p : ℕ × List ℕ). TakesItem IsLiteralLine (IsUsed vars) bytes p.0 p.1) last taken
 
-pub literal_again : (vars size : ℕ) (bytes : List ℕ) (l : ℕ) (rest : List ℕ) → TakesItem IsLiteralLine (IsUsed vars) bytes l rest → literal_at vars size bytes ≡ Ok (l, rest)
+pub literal_again : (vars size : ℕ) (bytes : List ℕ) (l : ℕ) (rest : List ℕ) → TakesItem IsLiteralLine (IsUsed vars) bytes l rest
+    → literal_at vars size bytes ≡ Ok (l, rest)
 unfolding literal_at
 literal_again vars size bytes l rest h =
-    let read : numbers_at size bytes ≡ Ok (l ∷ [], rest) = ap (numbers_at size) h.parts ∙ numbers_again size h.line (l ∷ []) rest h.form (omega arith) in
+    let read : numbers_at size bytes ≡ Ok (l ∷ [], rest) = ap (numbers_at size) h.parts
+    ∙ numbers_again size h.line (l ∷ []) rest h.form (omega arith) in
     rw (read, used_again vars (place size bytes) l h.range) refl
 
-pub literals_take : (vars size n : ℕ) (bytes ls rest : List ℕ) → repeated (literal_at vars size) n bytes ≡ Ok (ls, rest) → TakesItems IsLiteralLine (IsUsed vars) bytes ls rest × (length ls ≡ n)
+pub literals_take : (vars size n : ℕ) (bytes ls rest : List ℕ) → repeated (literal_at vars size) n bytes ≡ Ok (ls, rest)
+    → TakesItems IsLiteralLine (IsUsed vars) bytes ls rest × (length ls ≡ n)
 literals_take vars size n bytes ls rest e =
     let P = λ (s : List ℕ) (l : ℕ) (t : List ℕ). TakesItem IsLiteralLine (IsUsed vars) s l t in
-    let chain = repeated_takes (literal_at vars size) P (λ _. Unit {0}) (λ s l t i read. (literal_takes vars size s l t read, tt)) n bytes ls rest tt e in
+    let chain = repeated_takes (literal_at vars size) P (λ _. Unit {0})
+    (λ s l t i read. (literal_takes vars size s l t read, tt)) n bytes ls rest tt e in
     (items_from_chain IsLiteralLine (IsUsed vars) P (λ (s : List ℕ). s) (λ s l t h. h) bytes ls rest chain.0, chain.2)
 
-literal_chain : (vars : ℕ) (text ls rest : List ℕ) → AreLines IsLiteralLine text ls → AllByRecursion (IsUsed vars) ls → Chain (λ s l t. TakesItem IsLiteralLine (IsUsed vars) s l t) (text ++ rest) ls rest
+literal_chain : (vars : ℕ) (text ls rest : List ℕ) → AreLines IsLiteralLine text ls → AllByRecursion (IsUsed vars) ls
+    → Chain (λ s l t. TakesItem IsLiteralLine (IsUsed vars) s l t) (text ++ rest) ls rest
 literal_chain vars text [] rest lines range = ap (λ (k : List ℕ). k ++ rest) lines
-literal_chain vars text (l ∷ ls) rest lines range =
-    (lines.1 ++ rest, record { line = lines.0; parts = ap (λ (k : List ℕ). k ++ rest) lines.3 ∙ append_assoc lines.0 lines.1 rest; form = lines.2; range = range.0 }, literal_chain vars lines.1 ls rest lines.4 range.1)
+literal_chain vars text (l ∷ ls) rest lines range = (
+  lines.1 ++ rest,
+  record {
+    line = lines.0;
+    parts = ap (λ (k : List ℕ). k ++ rest) lines.3
+        ∙ append_assoc lines.0 lines.1 rest;
+    form = lines.2;
+    range = range.0;
+  },
+  literal_chain vars lines.1 ls rest lines.4 range.1,
+)
 
-pub literals_again : (vars size : ℕ) (text ls rest : List ℕ) → AreLines IsLiteralLine text ls → AllByRecursion (IsUsed vars) ls → repeated (literal_at vars size) (length ls) (text ++ rest) ≡ Ok (ls, rest)
+pub literals_again : (vars size : ℕ) (text ls rest : List ℕ) → AreLines IsLiteralLine text ls → AllByRecursion (IsUsed vars) ls
+    → repeated (literal_at vars size) (length ls) (text ++ rest) ≡ Ok (ls, rest)
 literals_again vars size text ls rest lines range =
     let P = λ (s : List ℕ) (l : ℕ) (t : List ℕ). TakesItem IsLiteralLine (IsUsed vars) s l t in
-    repeated_again (literal_at vars size) P (literal_again vars size) (text ++ rest) ls rest (literal_chain vars text ls rest lines range)
+    repeated_again (literal_at vars size) P (literal_again vars size) (text ++ rest) ls rest
+    (literal_chain vars text ls rest lines range)
 
 -- ---- a reset
 

@@ -24,5 +24,5 @@ pub record File : Type 0 where
   pub tail : List ℕ
 
 -- behind the gates of a file of so many bytes stands a line that is not in form
-abbrev pub IsTailFault : ℕ → File → ReadRefusal → Type 0
-IsTailFault size f r = (rest : List ℕ) × HasBadLine f.head f.tail rest × (r ≡ Symbol (place size rest))
+abbrev pub IsTailRefusal : ℕ → File → ReadRefusal → Type 0
+IsTailRefusal size f r = (rest : List ℕ) × HasBadLine f.head f.tail rest × (r ≡ Symbol (place size rest))

@@ -3,6 +3,7 @@ use Rattle.std.specs.Prelude.{◌≡◌, ℕ, ◌+◌, ◌≤◌, ◌==◌, if�
 use Rattle.ja_text.specs.Rows.{IsRow}
 use Rattle.aiger_lines.specs.declared.form.Form.{Form}
 use Rattle.aiger_lines.specs.declared.form.Form.TheVariants.{Ascii, Binary}
+use Rattle.aiger_lines.specs.declared.limits.TheConstants.{MOST_VARS, MOST_PROPERTIES, MOST_LINES}
 use Rattle.aiger_lines.specs.declared.sizes.Header.{Header}
 
 -- `aag` or `aig`
@@ -49,10 +50,10 @@ FitsSum Binary h = definition_count h ≡ h.vars
 
 -- the sizes that are taken
 pub record IsWithinLimits (form : Form) (h : Header) : Type 0 where
-  pub vars : h.vars ≤ 500000
+  pub vars : h.vars ≤ MOST_VARS
   pub justice : h.justice ≡ 0
   pub fairness : h.fairness ≡ 0
   pub sum : FitsSum form h
-  pub properties : property_count h ≤ 20000
-  pub outputs : h.outputs ≤ 500000
-  pub constraints : h.constraints ≤ 500000
+  pub properties : property_count h ≤ MOST_PROPERTIES
+  pub outputs : h.outputs ≤ MOST_LINES
+  pub constraints : h.constraints ≤ MOST_LINES

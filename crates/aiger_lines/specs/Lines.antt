@@ -8,7 +8,8 @@ use Rattle.aig_model.specs.declared.netlist.Reset.TheVariants.{Zero, One, Free}
 -- the text is a line of this form for each item, in order
 abbrev pub AreLines : {X : Type 0} → (List ℕ → X → Type 0) → List ℕ → List X → Type 0
 AreLines IsLine text [] = text ≡ []
-AreLines IsLine text (x ∷ xs) = (line : List ℕ) × (others : List ℕ) × IsLine line x × (text ≡ line ++ others) × AreLines IsLine others xs
+AreLines IsLine text (x ∷ xs) = (line : List ℕ) × (others : List ℕ) × IsLine line x × (text ≡ line ++ others)
+    × AreLines IsLine others xs
 
 -- a line of one literal
 abbrev pub IsLiteralLine : List ℕ → ℕ → Type 0
@@ -29,14 +30,16 @@ abbrev pub IsUsed : ℕ → ℕ → Type 0
 IsUsed vars l = l ≤ 2 * vars + 1
 
 -- the line of an item was read: the bytes are its text, and the rest
-pub record TakesItem {X : Type 0} (IsLine : List ℕ → X → Type 0) (InRange : X → Type 0) (bytes : List ℕ) (x : X) (rest : List ℕ) : Type 0 where
+pub record TakesItem {X : Type 0} (IsLine : List ℕ → X → Type 0) (InRange : X → Type 0) (bytes : List ℕ) (x : X)
+    (rest : List ℕ) : Type 0 where
   pub line : List ℕ
   pub parts : bytes ≡ line ++ rest
   pub form : IsLine line x
   pub range : InRange x
 
 -- a line for each of these items was read
-pub record TakesItems {X : Type 0} (IsLine : List ℕ → X → Type 0) (InRange : X → Type 0) (bytes : List ℕ) (xs : List X) (rest : List ℕ) : Type 0 where
+pub record TakesItems {X : Type 0} (IsLine : List ℕ → X → Type 0) (InRange : X → Type 0) (bytes : List ℕ) (xs : List X)
+    (rest : List ℕ) : Type 0 where
   pub text : List ℕ
   pub parts : bytes ≡ text ++ rest
   pub lines : AreLines IsLine text xs

@@ -1,43 +1,25 @@
 //! The header, and the sizes that are taken.
 
 ghost use Rattle.std.specs.Prelude.{◌≡◌, ℕ, ◌+◌, ◌≤◌, length, slice_index, option_map, not, IfOk};
-ghost use Rattle.ja_text.specs.Lines.{byte_at};
+ghost use Rattle.ja_text.specs.Reading.{Gives};
 ghost use Rattle.aiger_lines.specs.Header.{word_of, header_of, property_count, definition_count, IsWithinLimits};
-ghost use Rattle.aiger_lines.specs.Reading.{Reads, fits_sum, header_line_at, word_at, taken_sizes, header_at};
+ghost use Rattle.aiger_lines.specs.Reading.{fits_sum, header_line_at, taken_sizes, header_at};
 
 use crate::form::Form;
-use crate::refusal::{Large, ReadRefusal};
+use crate::limits::{MOST_BYTES, MOST_LINES, MOST_PROPERTIES, MOST_VARS};
+use crate::refusal::{Large, Read, ReadRefusal};
 use crate::sizes::Header;
-use ja_text::{row, space};
+use ja_base::OrMemory;
+use ja_text::{row, space, word};
 
-const MOST_BYTES: usize = 67_108_864;
-
-const MOST_VARS: u64 = 500_000;
-
-const MOST_PROPERTIES: u64 = 20_000;
-
-const MOST_LINES: u64 = 500_000;
-
-fn byte(wanted: u8, bytes: &[u8]) -> Option<&[u8]>
-    ensures { byte_at wanted bytes.now ≡ option_map (λ x. x.now) result }
+/// The word that begins a file of the form.
+fn word_of(form: Form) -> &'static [u8]
+    ensures { result.now ≡ word_of form }
 {
-    match bytes {
-        [first, rest @ ..] if *first == wanted => Some(rest),
-        _ => None,
+    match form {
+        Form::Ascii => b"aag",
+        Form::Binary => b"aig",
     }
-}
-
-/// What follows the word of the form.
-fn word(form: Form, bytes: &[u8]) -> Option<&[u8]>
-    ensures { word_at (word_of form) bytes.now ≡ option_map (λ x. x.now) result }
-{
-    let second = match form {
-        Form::Ascii => b'a',
-        Form::Binary => b'i',
-    };
-    let rest = byte(b'a', bytes)?;
-    let rest = byte(second, rest)?;
-    byte(b'g', rest)
 }
 
 fn number_or_zero(numbers: &[u64], at: usize) -> u64
@@ -66,7 +48,7 @@ fn header_from(numbers: &[u64]) -> Header
 fn header_line(form: Form, bytes: &[u8]) -> Option<(Header, &[u8])>
     ensures { header_line_at (word_of form) bytes.now ≡ option_map (λ x. (x.0, x.1.now)) result }
 {
-    let rest = word(form, bytes)?;
+    let rest = word(bytes, word_of(form))?;
     let rest = space(rest)?;
     match row(rest) {
         Some((numbers, rest)) if numbers.len() >= 5 => {
@@ -98,39 +80,39 @@ fn sum_fits(form: Form, header: &Header) -> bool
 }
 
 #[tactic(auto, unfolding(crate::specs::Reading::taken_sizes))]
-fn taken(form: Form, header: Header) -> Result<Header, ReadRefusal>
-    ensures read { Reads (λ h. h) result (taken_sizes form header) }
+fn taken(form: Form, header: Header) -> Read<Header>
+    ensures read { Gives (λ h. h) result (taken_sizes form header) }
     ensures limits { IfOk result (IsWithinLimits form) }
 {
     if header.vars > MOST_VARS {
-        return Err(ReadRefusal::TooLarge { what: Large::Vars });
+        return Err(OrMemory::Refused(ReadRefusal::TooLarge { what: Large::Vars }));
     }
     if header.justice > 0 || header.fairness > 0 {
-        return Err(ReadRefusal::Liveness);
+        return Err(OrMemory::Refused(ReadRefusal::Liveness));
     }
     if !sum_fits(form, &header) {
-        return Err(ReadRefusal::Header { at: 0 });
+        return Err(OrMemory::Refused(ReadRefusal::Header { at: 0 }));
     }
     if properties(&header) > MOST_PROPERTIES {
-        return Err(ReadRefusal::TooLarge { what: Large::Props });
+        return Err(OrMemory::Refused(ReadRefusal::TooLarge { what: Large::Props }));
     }
     if header.outputs > MOST_LINES || header.constraints > MOST_LINES {
-        return Err(ReadRefusal::TooLarge { what: Large::Lines });
+        return Err(OrMemory::Refused(ReadRefusal::TooLarge { what: Large::Lines }));
     }
     Ok(header)
 }
 
 /// The header of a file in the form. What is left begins behind its line.
 #[tactic(auto, unfolding(crate::specs::Reading::header_at))]
-pub fn read_header(form: Form, rest: &mut &[u8]) -> Result<Header, ReadRefusal>
-    ensures read { Reads (λ h. (h, rest.new.now)) result (header_at form rest.old.now) }
+pub fn read_header(form: Form, rest: &mut &[u8]) -> Read<Header>
+    ensures read { Gives (λ h. (h, rest.new.now)) result (header_at form rest.old.now) }
     ensures limits { IfOk result (IsWithinLimits form) }
 {
     if rest.len() > MOST_BYTES {
-        return Err(ReadRefusal::TooLarge { what: Large::File });
+        return Err(OrMemory::Refused(ReadRefusal::TooLarge { what: Large::File }));
     }
     let Some((header, after)) = header_line(form, *rest) else {
-        return Err(ReadRefusal::Header { at: 0 });
+        return Err(OrMemory::Refused(ReadRefusal::Header { at: 0 }));
     };
     *rest = after;
     taken(form, header)

@@ -1,8 +1,5 @@
 //! Why bytes are no design.
 
-ghost use Rattle.std.specs.Prelude.{◌≡◌};
-ghost use Rattle.ja_base.specs.declared.memory.OrMemory.TheVariants.{Refused};
-
 use ja_base::{OrMemory, Var};
 use thiserror::Error;
 
@@ -46,10 +43,5 @@ pub enum ReadRefusal {
     Order { at: usize },
 }
 
-impl From<ReadRefusal> for OrMemory<ReadRefusal> {
-    ghost from_gives = { λ r e. e ≡ Refused r };
-
-    fn from(refusal: ReadRefusal) -> OrMemory<ReadRefusal> {
-        OrMemory::Refused(refusal)
-    }
-}
+/// What is read, or the first refusal, or want of memory.
+pub type Read<T> = Result<T, OrMemory<ReadRefusal>>;

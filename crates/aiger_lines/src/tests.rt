@@ -21,7 +21,10 @@ fn headers_of_both_forms(rt: HostRuntime) {
     assert_eq!(rt; rest, b"3\n".as_slice());
     let mut rest: &[u8] = b"aig 4 1 2 0 0\n";
     let refused = read_header(Form::Binary, &mut rest);
-    assert_eq!(rt; refused, Err(ReadRefusal::Header { at: 0 }));
+    assert_eq!(rt;
+        refused,
+        Err(OrMemory::Refused(ReadRefusal::Header { at: 0 }))
+    );
 }
 
 #[test]

@@ -50,7 +50,8 @@ other row p q b ne = get_or-set_other row p q b false (λ e. ne (sym e))
 -- a bit that is 0 where one was set is another one
 pub unset : (row : List Bool) (p q : ℕ) → p < length row → bit (set row p true) q ≡ false → (p ≢ q) × (bit row q ≡ false)
 unset row p q within h =
-    let ne : p ≢ q = λ same. false≢true (sym h ∙ ap (bit (set row p true)) (sym same) ∙ get_or-set_same row p true false within) in
+    let ne : p ≢ q = λ same. false≢true
+    (sym h ∙ ap (bit (set row p true)) (sym same) ∙ get_or-set_same row p true false within) in
     (ne, sym (other row p q true ne) ∙ h)
 
 pub unset_again : (row : List Bool) (p q : ℕ) → p ≢ q → bit row q ≡ false → bit (set row p true) q ≡ false
@@ -60,11 +61,14 @@ unset_again row p q ne h = other row p q true ne ∙ h
 abbrev pub cleared : Bool → List Bool → ℕ → List Bool
 cleared stays row p = cond stays row (set row p false)
 
-pub cleared_takes : (stays : Bool) (row : List Bool) (p q : ℕ) → bit (cleared stays row p) q ≡ false → (bit row q ≡ false) ⊎ ((p ≡ q) × (stays ≡ false))
+pub cleared_takes : (stays : Bool) (row : List Bool) (p q : ℕ) → bit (cleared stays row p) q ≡ false → (bit row q ≡ false)
+    ⊎ ((p ≡ q) × (stays ≡ false))
 cleared_takes true row p q h = inl h
-cleared_takes false row p q h = elim (same_number p q) [ inl same ↦ inr (same, refl) | inr ne ↦ inl (sym (other row p q false ne) ∙ h) ]
+cleared_takes false row p q h = elim
+    (same_number p q) [ inl same ↦ inr (same, refl) | inr ne ↦ inl (sym (other row p q false ne) ∙ h) ]
 
-pub cleared_again : (stays : Bool) (row : List Bool) (p q : ℕ) → p < length row → (bit row q ≡ false) ⊎ ((p ≡ q) × (stays ≡ false)) → bit (cleared stays row p) q ≡ false
+pub cleared_again : (stays : Bool) (row : List Bool) (p q : ℕ) → p < length row → (bit row q ≡ false)
+    ⊎ ((p ≡ q) × (stays ≡ false)) → bit (cleared stays row p) q ≡ false
 cleared_again true row p q within (inl h) = h
 cleared_again true row p q within (inr h) = absurd (false≢true (sym h.1))
 cleared_again false row p q within (inl h) = elim (same_number p q) [
@@ -80,7 +84,8 @@ same_bit false true to from = sym (to refl)
 same_bit false false to from = refl
 
 -- rows of one length with 0 at the same places are one row
-pub same_rows : (xs ys : List Bool) → length xs ≡ length ys → ((i : ℕ) → i < length xs → (bit xs i ≡ false) ↔ (bit ys i ≡ false)) → xs ≡ ys
+pub same_rows : (xs ys : List Bool) → length xs ≡ length ys → ((i : ℕ) → i < length xs → (bit xs i ≡ false) ↔ (bit ys i ≡ false))
+    → xs ≡ ys
 same_rows [] [] len each = refl
 same_rows [] (y ∷ ys) len each = absurd (omega arith)
 same_rows (x ∷ xs) [] len each = absurd (omega arith)

@@ -12,7 +12,8 @@ use Rattle.expect_file.specs.ExpectationsReading.{parts}
 
 -- ---- a text and its lines
 
-cut_step : (t : Bool) (b : ℕ) (lines : List (List ℕ)) → eqb b 10 ≡ t → AllByRecursion IsOneLine lines → AllByRecursion IsOneLine (cond t ([] ∷ lines) (onto_first b lines))
+cut_step : (t : Bool) (b : ℕ) (lines : List (List ℕ)) → eqb b 10 ≡ t → AllByRecursion IsOneLine lines
+    → AllByRecursion IsOneLine (cond t ([] ∷ lines) (onto_first b lines))
 cut_step true b lines e each = (tt, each)
 cut_step false b [] e each = ((eqb-false b 10 e, tt), tt)
 cut_step false b (line ∷ lines) e each = ((eqb-false b 10 e, each.0), each.1)
@@ -28,13 +29,16 @@ pub parts_joined : (bytes : List ℕ) → join_with_byte 10 (parts bytes) ≡ by
 parts_joined bytes = join_with_byte-slice_split 10 bytes
 
 uncut : (line : List ℕ) → IsOneLine line → All (λ b. eqb b 10 ≡ false) line
-uncut line h = All-weaker (λ b. b ≢ 10) (λ b. eqb b 10 ≡ false) (λ b ne. grind (arith, nat_tests)) line (All-from_recursion (λ b. b ≢ 10) line h)
+uncut line h = All-weaker (λ b. b ≢ 10) (λ b. eqb b 10 ≡ false) (λ b ne. grind (arith, nat_tests)) line
+    (All-from_recursion (λ b. b ≢ 10) line h)
 
-pub parts_again : (line : List ℕ) (lines : List (List ℕ)) → IsOneLine line → All IsOneLine lines → parts (join_with_byte 10 (line ∷ lines)) ≡ line ∷ lines
+pub parts_again : (line : List ℕ) (lines : List (List ℕ)) → IsOneLine line → All IsOneLine lines
+    → parts (join_with_byte 10 (line ∷ lines)) ≡ line ∷ lines
 parts_again line [] h each = slice_split_none (λ b. eqb b 10) line (uncut line h)
 parts_again line (next ∷ lines) h each =
     slice_split_at (λ b. eqb b 10) line 10 (join_with_byte 10 (next ∷ lines)) (uncut line h) refl
-    ∙ ap (λ (others : List (List ℕ)). line ∷ others) (parts_again next lines (All-head IsOneLine next lines each) (All-tail IsOneLine next lines each))
+    ∙ ap (λ (others : List (List ℕ)). line ∷ others)
+    (parts_again next lines (All-head IsOneLine next lines each) (All-tail IsOneLine next lines each))
 
 -- ---- the first line
 

@@ -1,10 +1,12 @@
 -- Reading an expectations file line by line: what it says, or the first rule that it breaks.
-use Rattle.std.specs.Prelude.{ℕ, ◌+◌, ◌==◌, Bool, true, false, not, nat_lt, if◌then◌else◌, List, [], ◌∷◌, length, take, drop, replicate, Option, Some, None, option_map, Result, Ok, Err, bytes_eq, ok_or, slice_set}
+use Rattle.std.specs.Prelude.{ℕ, ◌+◌, ◌==◌, Bool, true, false, not, nat_lt, if◌then◌else◌, List, [], ◌∷◌, length, replicate, Option, Some, None, option_map, Result, Ok, Err, bytes_eq, ok_or, slice_set}
 use Rattle.std.specs.List.{slice_split}
 use Rattle.ja_base.specs.Literals.{bit}
-use Rattle.ja_text.specs.Numbers.{number_at}
+use Rattle.ja_text.specs.Lines.{word_at}
+use Rattle.ja_text.specs.Numbers.{number_at, whole_number}
 use Rattle.ja_text.specs.Reading.{◌>>=◌}
 use Rattle.aig_model.specs.Netlist.{Netlist}
+use Rattle.expect_file.specs.declared.limits.TheConstants.{MOST_BYTES}
 use Rattle.expect_file.specs.declared.line.Entry.{Entry}
 use Rattle.expect_file.specs.declared.found.Found.{Found}
 use Rattle.expect_file.specs.declared.refusal.ExpectRefusal.{ExpectRefusal}
@@ -25,20 +27,11 @@ abbrev pub is_remark : List ℕ → Bool
 is_remark [] = true
 is_remark (c ∷ cs) = c == 35
 
--- a number, and nothing behind it
-abbrev pub whole_number : Option (ℕ × List ℕ) → Option ℕ
-whole_number None = None
-whole_number (Some (n, [])) = Some n
-whole_number (Some (n, b ∷ bs)) = None
-
--- what follows the word at the front of a line
-abbrev pub after_word : List ℕ → List ℕ → Option (List ℕ)
-after_word front line = if bytes_eq (take (length front) line) front then Some (drop (length front) line) else None
-
 -- what is said of the property whose digits these are
 abbrev pub entry_with : Bool → List ℕ → Option Entry
 entry_with holds digits = option_map (λ p. record { property = p; holds = holds }) (whole_number (number_at digits))
 
+-- what is said behind `hold b`, or behind `fail b`
 abbrev pub hold_or_fail : Option (List ℕ) → Option (List ℕ) → Option Entry
 hold_or_fail (Some digits) other = entry_with true digits
 hold_or_fail None (Some digits) = entry_with false digits
@@ -46,7 +39,7 @@ hold_or_fail None None = None
 
 -- `hold b` or `fail b`, and a number
 unfoldable pub entry_of : List ℕ → Option Entry
-entry_of line = hold_or_fail (after_word (word true) line) (after_word (word false) line)
+entry_of line = hold_or_fail (word_at (word true) line) (word_at (word false) line)
 
 -- the entry joins those so far
 abbrev pub with_entry : Found → Entry → Found
@@ -85,4 +78,4 @@ all_read count (first ∷ lines) = if not (bytes_eq first opening) then Err (Lin
 
 -- what a text of a file says
 unfoldable pub expectations_of : Netlist → List ℕ → Result (List Bool) ExpectRefusal
-expectations_of d bytes = if nat_lt 4194304 (length bytes) then Err TooLarge else all_read (length d.bads) (parts bytes)
+expectations_of d bytes = if nat_lt MOST_BYTES (length bytes) then Err TooLarge else all_read (length d.bads) (parts bytes)

@@ -5,6 +5,7 @@ use Rattle.ja_base.specs.Literals.{bit}
 use Rattle.ja_text.specs.Numbers.{IsNumber}
 use Rattle.ja_text.specs.Lines.{IsOneLine}
 use Rattle.aig_model.specs.Netlist.{Netlist}
+use Rattle.expect_file.specs.declared.limits.TheConstants.{MOST_BYTES}
 use Rattle.expect_file.specs.declared.line.Entry.{Entry}
 
 -- the first line
@@ -44,4 +45,4 @@ pub record IsExpectations (d : Netlist) (bytes : List ℕ) (expected : List Bool
   pub once : AllPairs (λ e f. e.property ≢ f.property) entries
   pub all : length expected ≡ length d.bads
   pub fails : (i : ℕ) → i < length d.bads → (bit expected i ≡ false) ↔ Contains entries (record { property = i; holds = false })
-  pub small : length bytes ≤ 4194304
+  pub small : length bytes ≤ MOST_BYTES

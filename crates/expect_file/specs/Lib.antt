@@ -1,3 +1,3 @@
 pub mod ExpectationsText
 pub mod ExpectationsReading
-pub mod FirstFault
+pub mod FirstRefusal

@@ -4,10 +4,12 @@
 
 mod found;
 mod laws;
+mod limits;
 mod line;
 mod read;
 mod refusal;
 
-pub use laws::expectations_text_is_exact;
+pub use laws::{expectations_text_is_exact, spells_or_is_refused};
+pub use limits::MOST_BYTES;
 pub use read::read_expect;
 pub use refusal::ExpectRefusal;

@@ -1,5 +1,6 @@
 //! Why a text says no expectations.
 
+use ja_base::OrMemory;
 use thiserror::Error;
 
 /// The first rule that the text of an expectations file breaks. Lines are counted from 1.
@@ -14,3 +15,6 @@ pub enum ExpectRefusal {
     #[error("more than the limits allow")]
     TooLarge,
 }
+
+/// What is read, or the first refusal, or want of memory.
+pub type Read<T> = Result<T, OrMemory<ExpectRefusal>>;

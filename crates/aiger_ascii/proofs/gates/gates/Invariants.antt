@@ -5,6 +5,8 @@ use Rattle.aiger_ascii.proofs.gates.gates.Given as goal
 
 abbrev pub invariant-loop : goal.invariant-loop
 invariant-loop l = record {
-  underway : IsUnderway (gate_at l.vars l.size) l.count (record { seen = l.initial.seen; rest = l.initial.rest.now }) l.counter l.gates (record { seen = l.seen; rest = l.rest.now });
+  underway : IsUnderway (gate_at l.vars l.size) l.count
+      (record { seen = l.initial.seen; rest = l.initial.rest.now }) l.counter l.gates
+      (record { seen = l.seen; rest = l.rest.now });
   sized : length l.seen ≡ length l.initial.seen;
 }

@@ -1,5 +1,5 @@
 use Rattle.aiger_ascii.proofs.FileLemmas.{file_range, file_once, file_spells}
-use Rattle.aiger_ascii.proofs.FaultLemmas.{tail_fault}
+use Rattle.aiger_ascii.proofs.RefusalLemmas.{tail_refusal}
 use Rattle.aiger_ascii.proofs.read.whole.Goals as goal
 
 pub design-requires-clause-range : goal.design-requires-clause-range
@@ -9,9 +9,12 @@ pub design-requires-clause-once : goal.design-requires-clause-once
 design-requires-clause-once c = file_once c.args.bytes.now _ c.in_ok-header.ensures
 
 pub returns-in-None-clause-found : goal.returns-in-None-clause-found
-returns-in-None-clause-found c =
-    (c.in_ok-header.parts, file_spells c.args.bytes.now _ c.in_ok-header.ensures c.in_ok-design.ensures.sound c.in-None.ensures.none, c.in_ok-design.ensures.design)
+returns-in-None-clause-found c = (
+  c.in_ok-header.parts,
+  file_spells c.args.bytes.now _ c.in_ok-header.ensures c.in_ok-design.ensures.sound c.in-None.ensures.none,
+  c.in_ok-design.ensures.design,
+)
 
 pub returns-in-Some-clause-refused : goal.returns-in-Some-clause-refused
 returns-in-Some-clause-refused c =
-    tail_fault c.args.bytes.now _ c.place.result c.in-Some.line.now c.in_ok-header.ensures c.in_ok-design.ensures.sound c.in-Some.ensures.some c.place.ensures
+    tail_refusal c.args.bytes.now _ c.place.result c.in-Some.line.now c.in_ok-header.ensures c.in_ok-design.ensures.sound c.in-Some.ensures.some c.place.ensures

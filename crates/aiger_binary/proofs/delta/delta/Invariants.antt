@@ -6,7 +6,8 @@ use Rattle.aiger_binary.proofs.delta.delta.Given as goal
 
 abbrev pub invariant-loop : goal.invariant-loop
 invariant-loop l = record {
-  so_far : with_low l.number l.scale (groups_at l.size (place l.size l.bytes) (5 - l.counter) l.rest) ≡ groups_at l.size (place l.size l.bytes) 5 l.bytes;
+  so_far : with_low l.number l.scale (groups_at l.size (place l.size l.bytes) (5 - l.counter) l.rest) ≡ groups_at l.size
+      (place l.size l.bytes) 5 l.bytes;
   below : l.number < l.scale;
   scale : l.scale ≡ 128 ^ l.counter;
   small : l.scale ≤ 34359738368;

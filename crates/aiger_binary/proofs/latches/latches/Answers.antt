@@ -1,13 +1,12 @@
 use Rattle.std.proofs.Common.{◌≡◌, ◌+◌, ◌*◌, arith}
 use Rattle.std.proofs.lemmas.Result.{err_from_is_err_and}
-use Rattle.ja_base.specs.declared.memory.OrMemory.TheVariants.{Refused}
 use Rattle.ja_text.proofs.RepeatedLemmas.{goes_on, ends, is_done}
 use Rattle.aiger_binary.proofs.latches.latches.Goals as goal
 
 pub returns-in_err-latch : goal.returns-in_err-latch
 returns-in_err-latch c =
     let p = err_from_is_err_and c.from_residual.result c.from_residual.ensures.1 in
-    rw (p.1, p.2) (ends (Refused c.in_err-latch.field-0.0) c.loop-index.invariant c.loop-index-test.true c.in_err-latch.ensures)
+    rw (p.1, p.2) (ends c.in_err-latch.field-0.0 c.loop-index.invariant c.loop-index-test.true c.in_err-latch.ensures)
 
 pub loop-index-preserved : goal.loop-index-preserved
 loop-index-preserved c =

@@ -4,4 +4,6 @@ use Rattle.aiger_binary.specs.Reading.{latch_at}
 use Rattle.aiger_binary.proofs.latches.latches.Given as goal
 
 abbrev pub invariant-loop-index : goal.invariant-loop-index
-invariant-loop-index l = IsUnderway (latch_at l.vars l.size) l.count (record { lit = 2 * l.first; rest = l.initial.rest.now }) l.index l.latches (record { lit = 2 * (l.first + l.index); rest = l.rest.now })
+invariant-loop-index l = IsUnderway (latch_at l.vars l.size) l.count
+    (record { lit = 2 * l.first; rest = l.initial.rest.now }) l.index l.latches
+    (record { lit = 2 * (l.first + l.index); rest = l.rest.now })

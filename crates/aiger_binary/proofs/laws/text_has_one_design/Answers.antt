@@ -1,4 +1,4 @@
-use Rattle.aiger_binary.proofs.FaultLemmas.{one_circuit}
+use Rattle.aiger_binary.proofs.RefusalLemmas.{one_circuit}
 use Rattle.aiger_binary.proofs.laws.text_has_one_design.Goals as goal
 
 pub returns : goal.returns

@@ -1,5 +1,5 @@
 use Rattle.aiger_binary.proofs.FileLemmas.{file_range, file_design, file_spells}
-use Rattle.aiger_binary.proofs.FaultLemmas.{tail_fault}
+use Rattle.aiger_binary.proofs.RefusalLemmas.{tail_refusal}
 use Rattle.aiger_binary.proofs.read.whole.Goals as goal
 
 pub design-requires-clause-range : goal.design-requires-clause-range
@@ -14,4 +14,4 @@ returns-in-None-clause-found c =
 
 pub returns-in-Some-clause-refused : goal.returns-in-Some-clause-refused
 returns-in-Some-clause-refused c =
-    tail_fault c.args.bytes.now _ c.place.result c.in-Some.line.now c.in_ok-header.ensures c.in-Some.ensures.some c.place.ensures
+    tail_refusal c.args.bytes.now _ c.place.result c.in-Some.line.now c.in_ok-header.ensures c.in-Some.ensures.some c.place.ensures

@@ -8,7 +8,8 @@ use Rattle.expect_file.proofs.read.take_lines.Given as goal
 abbrev pub invariant-loop-behind : goal.invariant-loop-behind
 invariant-loop-behind l =
     record {
-      read : lines_read l.number l.found (parts_behind (option_map (λ x. x.now) l.behind)) ≡ lines_read 2 l.fn.found (parts_behind (option_map (λ x. x.now) l.fn.bytes));
+      read : lines_read l.number l.found (parts_behind (option_map (λ x. x.now) l.behind)) ≡ lines_read 2 l.fn.found
+          (parts_behind (option_map (λ x. x.now) l.fn.bytes));
       sized : length l.found.named ≡ length l.found.expect;
       room : IfSome l.behind (λ rest. l.number + length rest.now ≤ 4194306);
     }
