@@ -14,7 +14,7 @@ not-not : (b : Bool) → not (not b) ≡ b
 not-not true = refl
 not-not false = refl
 
-same_or_other : (x b : Bool) → (x ≡ b) ⊎ (x ≡ not b)
+pub same_or_other : (x b : Bool) → (x ≡ b) ⊎ (x ≡ not b)
 same_or_other true true = inl refl
 same_or_other true false = inr refl
 same_or_other false true = inr refl

@@ -4,15 +4,15 @@ use Rattle.std.specs.Prelude.{ok_or}
 use Rattle.std.specs.List.{list_all, AllByRecursion}
 use Rattle.std.proofs.lemmas.List.{append-nil}
 use Rattle.std.proofs.lemmas.Slice.Eq.{bytes_eq-Decides}
-use Rattle.ja_text.specs.Numbers.{IsNumber, IsDigit, number_at}
+use Rattle.ja_text.specs.Numbers.{IsNumber, IsDigit, number_at, whole_number}
 use Rattle.ja_text.specs.Lines.{IsOneLine, TakesLine, line_at}
 use Rattle.ja_text.proofs.LineLemmas.{line_takes, line_again}
-use Rattle.ja_text.proofs.NumberLemmas.{number_takes, number_again}
+use Rattle.ja_text.proofs.NumberLemmas.{whole_number_takes, whole_number_again}
 use Rattle.ja_text.proofs.ReadingLemmas.{bind_ok, guard_held, ok_or_ok, ok_is}
 use Rattle.local_stim.specs.declared.refusal.StimRefusal.{StimRefusal}
 use Rattle.local_stim.specs.declared.refusal.StimRefusal.TheVariants.{Line, Unknown, Width, Short}
 use Rattle.local_stim.specs.StimulusText.{IsBit, IsRowText, IsLineEnd}
-use Rattle.local_stim.specs.StimulusReading.{is_dot, line_or_dot, due_line, is_row_character, bits_of, whole_number, property_of, known_property}
+use Rattle.local_stim.specs.StimulusReading.{is_dot, line_or_dot, due_line, is_row_character, bits_of, property_of, known_property}
 
 -- ---- a line that is due
 
@@ -20,8 +20,10 @@ use Rattle.local_stim.specs.StimulusReading.{is_dot, line_or_dot, due_line, is_r
 abbrev pub IsDue : List ℕ → List ℕ → List ℕ → Type 0
 IsDue rest line after = TakesLine rest line after ⊎ ((rest ≡ 46 ∷ []) × (line ≡ 46 ∷ []) × (after ≡ []))
 
-due_step : (number : ℕ) (rest : List ℕ) (found : Option (List ℕ × List ℕ)) (x : List ℕ × List ℕ) → line_at rest ≡ found → line_or_dot number rest found ≡ Ok x → IsDue rest x.0 x.1
-due_step number rest (Some y) x e h = inl (line_takes rest x (e ∙ ap (λ (z : List ℕ × List ℕ). Some z) (ok_is {F = StimRefusal} y x h)))
+due_step : (number : ℕ) (rest : List ℕ) (found : Option (List ℕ × List ℕ)) (x : List ℕ × List ℕ) → line_at rest ≡ found
+    → line_or_dot number rest found ≡ Ok x → IsDue rest x.0 x.1
+due_step number rest (Some y) x e h = inl
+    (line_takes rest x (e ∙ ap (λ (z : List ℕ × List ℕ). Some z) (ok_is {F = StimRefusal} y x h)))
 due_step number rest None x e h =
     let dot = guard_held (is_dot rest) (Short number) (rest, []) x h in
     let is = (bytes_eq-Decides rest (46 ∷ [])).0 dot.0 in
@@ -73,25 +75,30 @@ IsRowText-length [] (b ∷ bs) h = absurd h
 IsRowText-length (c ∷ cs) [] h = absurd h
 IsRowText-length (c ∷ cs) (b ∷ bs) h = ap (λ (n : ℕ). suc n) (IsRowText-length cs bs h.1)
 
-bits_step : (t u : Bool) (width number : ℕ) (line : List ℕ) (bits : List Bool) → list_all is_row_character line ≡ t → eqb (length line) width ≡ u
+bits_step : (t u : Bool) (width number : ℕ) (line : List ℕ) (bits : List Bool) → list_all is_row_character line ≡ t
+    → eqb (length line) width ≡ u
     → cond (not t) (Err (Line number)) (cond (not u) (Err (Width number)) (Ok (map (λ c. eqb c 49) line))) ≡ Ok bits
     → IsRowText line bits × (length bits ≡ width)
 bits_step false u width number line bits e d h = absurd cc
 bits_step true false width number line bits e d h = absurd cc
 bits_step true true width number line bits e d h =
-    let spelled = subst (λ (row : List Bool). IsRowText line row) (ok_is {F = StimRefusal} (map (λ c. eqb c 49) line) bits h) (row_takes line e) in
+    let spelled = subst (λ (row : List Bool). IsRowText line row) (ok_is {F = StimRefusal} (map (λ c. eqb c 49) line) bits h)
+    (row_takes line e) in
     (spelled, sym (IsRowText-length line bits spelled) ∙ eqb-true (length line) width d)
 
-pub bits_take : (width number : ℕ) (line : List ℕ) (bits : List Bool) → bits_of width number line ≡ Ok bits → IsRowText line bits × (length bits ≡ width)
+pub bits_take : (width number : ℕ) (line : List ℕ) (bits : List Bool) → bits_of width number line ≡ Ok bits → IsRowText line bits
+    × (length bits ≡ width)
 unfolding bits_of
-bits_take width number line bits h = bits_step (list_all is_row_character line) (eqb (length line) width) width number line bits refl refl h
+bits_take width number line bits h = bits_step (list_all is_row_character line)
+    (eqb (length line) width) width number line bits refl refl h
 
 bit_again : (c : ℕ) (b : Bool) → IsBit c b → (is_row_character c ≡ true) × (eqb c 49 ≡ b)
 bit_again c false (inl e) = rw e (refl, refl)
 bit_again c false (inr e) = rw e (refl, refl)
 bit_again c true e = rw e (refl, refl)
 
-row_again : (line : List ℕ) (bits : List Bool) → IsRowText line bits → (list_all is_row_character line ≡ true) × (map (λ c. eqb c 49) line ≡ bits)
+row_again : (line : List ℕ) (bits : List Bool) → IsRowText line bits → (list_all is_row_character line ≡ true)
+    × (map (λ c. eqb c 49) line ≡ bits)
 row_again [] [] h = (refl, refl)
 row_again [] (b ∷ bs) h = absurd h
 row_again (c ∷ cs) [] h = absurd h
@@ -100,7 +107,8 @@ row_again (c ∷ cs) (b ∷ bs) h =
     let others = row_again cs bs h.1 in
     (rw (here.0, others.0) refl, rw (here.1, others.1) refl)
 
-pub bits_again : (width number : ℕ) (line : List ℕ) (bits : List Bool) → IsRowText line bits → length bits ≡ width → bits_of width number line ≡ Ok bits
+pub bits_again : (width number : ℕ) (line : List ℕ) (bits : List Bool) → IsRowText line bits → length bits ≡ width
+    → bits_of width number line ≡ Ok bits
 unfolding bits_of
 bits_again width number line bits h e =
     let row = row_again line bits h in
@@ -137,17 +145,14 @@ pub record NamesProperty (line : List ℕ) (p : ℕ) : Type 0 where
   pub is : line ≡ 98 ∷ number
   pub form : IsNumber number p
 
-property_whole : (digits : List ℕ) (found : Option (ℕ × List ℕ)) (p : ℕ) → number_at digits ≡ found → whole_number found ≡ Some p → IsNumber digits p
-property_whole digits None p e h = absurd cc
-property_whole digits (Some (n, [])) p e h =
-    let same : n ≡ p = cc in
-    let taken = number_takes digits n [] e in
-    let whole : digits ≡ taken.number.text = taken.number.parts ∙ append-nil taken.number.text in
-    subst (λ (k : ℕ). IsNumber digits k) same (subst (λ (text : List ℕ). IsNumber text n) (sym whole) taken.number.form)
-property_whole digits (Some (n, b ∷ bs)) p e h = absurd cc
-
-property_step : (t : Bool) (b : ℕ) (digits : List ℕ) (p : ℕ) → eqb b 98 ≡ t → cond t (whole_number (number_at digits)) None ≡ Some p → NamesProperty (b ∷ digits) p
-property_step true b digits p e h = record { number = digits; is = ap (λ (k : ℕ). k ∷ digits) (eqb-true b 98 e); form = property_whole digits (number_at digits) p refl h }
+property_step : (t : Bool) (b : ℕ) (digits : List ℕ) (p : ℕ) → eqb b 98 ≡ t
+    → cond t (whole_number (number_at digits)) None ≡ Some p → NamesProperty (b ∷ digits) p
+property_step true b digits p e h = record {
+  number = digits;
+  is = ap (λ (k : ℕ). k ∷ digits)
+      (eqb-true b 98 e);
+  form = whole_number_takes digits p h;
+}
 property_step false b digits p e h = absurd cc
 
 pub property_takes : (line : List ℕ) (p : ℕ) → property_of line ≡ Some p → NamesProperty line p
@@ -157,7 +162,7 @@ property_takes (b ∷ digits) p h = property_step (eqb b 98) b digits p refl h
 
 pub property_again : (number : List ℕ) (p : ℕ) → IsNumber number p → property_of (98 ∷ number) ≡ Some p
 unfolding property_of
-property_again number p h = ap (λ (text : List ℕ). whole_number (number_at text)) (sym (append-nil number)) ∙ rw (number_again number [] p h tt) refl
+property_again number p h = whole_number_again number p h
 
 pub known_takes : (count : ℕ) (line : List ℕ) (p : ℕ) → known_property count line ≡ Ok p → NamesProperty line p × (p < count)
 unfolding known_property
@@ -167,7 +172,8 @@ known_takes count line p h =
     let held : p < count = subst (λ (k : ℕ). k < count) below.1 (ltb-true named.0 count below.0) in
     (property_takes line p (ok_or_ok (property_of line) (Line 2) named.0 named.1 ∙ ap (λ (k : ℕ). Some k) below.1), held)
 
-pub known_again : (count : ℕ) (number : List ℕ) (p : ℕ) → IsNumber number p → p < count → known_property count (98 ∷ number) ≡ Ok p
+pub known_again : (count : ℕ) (number : List ℕ) (p : ℕ) → IsNumber number p → p < count
+    → known_property count (98 ∷ number) ≡ Ok p
 unfolding known_property
 known_again count number p h lt = rw (property_again number p h, lt-ltb p count lt) refl
 

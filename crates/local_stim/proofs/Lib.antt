@@ -6,3 +6,5 @@ pub mod RowLemmas
 pub mod DueLemmas
 pub mod RowLineLemmas
 pub mod StimulusLemmas
+pub mod WriteLemmas
+pub mod ExistLemmas

@@ -17,19 +17,22 @@ regroup front row (Ok rows) = ap (λ (all : List (List Bool)). Ok all) (simp app
 regroup front row (Err f) = refl
 
 -- the row that is read next joins those so far
-pub goes_on : (front : List (List Bool)) (width most done number next : ℕ) (rest : List ℕ) (row : List Bool) (after : List ℕ) (total : Result (List (List Bool)) StimRefusal)
+pub goes_on : (front : List (List Bool)) (width most done number next : ℕ) (rest : List ℕ) (row : List Bool) (after : List ℕ)
+    (total : Result (List (List Bool)) StimRefusal)
     → done < most → next ≡ number + 1 → next_row_at width number rest ≡ Ok (Some (row, after))
     → with_rows front (rows_at width (most - done) number rest) ≡ total
     → with_rows (front ++ row ∷ []) (rows_at width (most - (done + 1)) next after) ≡ total
 unfolding rows_at
 goes_on front width most done number next rest row after total lt n h so_far =
-    let one : with_rows front (rows_at width (most - done) number rest) ≡ with_rows (front ++ row ∷ []) (rows_at width (most - (done + 1)) (number + 1) after)
+    let one : with_rows front (rows_at width (most - done) number rest) ≡ with_rows (front ++ row ∷ [])
+    (rows_at width (most - (done + 1)) (number + 1) after)
     = rw (one_more most done lt, h) (regroup front row (rows_at width (most - (done + 1)) (number + 1) after)) in
     rw n (sym one ∙ so_far)
 
 -- at the dot the rows so far are all
 pub ends : (front : List (List Bool)) (width most done number : ℕ) (rest : List ℕ) (total : Result (List (List Bool)) StimRefusal)
-    → done < most → next_row_at width number rest ≡ Ok None → with_rows front (rows_at width (most - done) number rest) ≡ total → total ≡ Ok front
+    → done < most → next_row_at width number rest ≡ Ok None → with_rows front (rows_at width (most - done) number rest) ≡ total
+    → total ≡ Ok front
 unfolding rows_at
 ends front width most done number rest total lt h so_far =
     let one : with_rows front (rows_at width (most - done) number rest) ≡ Ok front
@@ -37,8 +40,10 @@ ends front width most done number rest total lt h so_far =
     sym so_far ∙ one
 
 -- a row that is refused refuses the text
-pub fails : (e : OrMemory StimRefusal) (front : List (List Bool)) (width most done number : ℕ) (rest : List ℕ) (total : Result (List (List Bool)) StimRefusal)
-    → done < most → Fails e (next_row_at width number rest) → with_rows front (rows_at width (most - done) number rest) ≡ total → Fails e total
+pub fails : (e : OrMemory StimRefusal) (front : List (List Bool)) (width most done number : ℕ) (rest : List ℕ)
+    (total : Result (List (List Bool)) StimRefusal)
+    → done < most → Fails e (next_row_at width number rest) → with_rows front (rows_at width (most - done) number rest) ≡ total
+    → Fails e total
 unfolding rows_at
 fails or_memory.Memory front width most done number rest total lt h so_far = tt
 fails (or_memory.Refused f) front width most done number rest total lt h so_far =
@@ -51,13 +56,18 @@ full : (front : List (List Bool)) (width most done number : ℕ) (rest : List �
 unfolding rows_at
 full front width most done number rest le = let none_left : most - done ≡ 0 = omega arith in rw none_left refl
 
-pub full_ends : (front : List (List Bool)) (width most done number last : ℕ) (rest : List ℕ) (total : Result (List (List Bool)) StimRefusal)
-    → most ≤ done → last ≡ number → dot_at last rest ≡ Ok [] → with_rows front (rows_at width (most - done) number rest) ≡ total → total ≡ Ok front
+pub full_ends : (front : List (List Bool)) (width most done number last : ℕ) (rest : List ℕ)
+    (total : Result (List (List Bool)) StimRefusal)
+    → most ≤ done → last ≡ number → dot_at last rest ≡ Ok [] → with_rows front (rows_at width (most - done) number rest) ≡ total
+    → total ≡ Ok front
 full_ends front width most done number last rest total le n h so_far =
-    sym so_far ∙ (full front width most done number rest le ∙ rw (← n, h) (ap (λ (rows : List (List Bool)). Ok rows) (append-nil front)))
+    sym so_far ∙ (full front width most done number rest le
+    ∙ rw (← n, h) (ap (λ (rows : List (List Bool)). Ok rows) (append-nil front)))
 
-pub full_fails : (e : OrMemory StimRefusal) (front : List (List Bool)) (width most done number last : ℕ) (rest : List ℕ) (total : Result (List (List Bool)) StimRefusal)
-    → most ≤ done → last ≡ number → Fails e (dot_at last rest) → with_rows front (rows_at width (most - done) number rest) ≡ total → Fails e total
+pub full_fails : (e : OrMemory StimRefusal) (front : List (List Bool)) (width most done number last : ℕ) (rest : List ℕ)
+    (total : Result (List (List Bool)) StimRefusal)
+    → most ≤ done → last ≡ number → Fails e (dot_at last rest) → with_rows front (rows_at width (most - done) number rest) ≡ total
+    → Fails e total
 full_fails or_memory.Memory front width most done number last rest total le n h so_far = tt
 full_fails (or_memory.Refused f) front width most done number last rest total le n h so_far =
     sym so_far ∙ (full front width most done number rest le ∙ rw (← n, h) refl)

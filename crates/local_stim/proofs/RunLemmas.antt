@@ -19,7 +19,8 @@ length-run c state (x ∷ rows) [] r = absurd r
 
 -- a run goes on from where another ends
 pub IsRun-append : (c : plain.Circuit) (first state : List Bool) (rows steps more vs : List (List Bool))
-    → IsRun c first rows steps → state_after c first steps ≡ state → IsRun c state more vs → IsRun c first (rows ++ more) (steps ++ vs)
+    → IsRun c first rows steps → state_after c first steps ≡ state → IsRun c state more vs
+    → IsRun c first (rows ++ more) (steps ++ vs)
 IsRun-append c first state [] [] more vs r next rest = subst (λ s. IsRun c s more vs) (sym next) rest
 IsRun-append c first state (x ∷ rows) (v ∷ steps) more vs r next rest =
     (r.0, IsRun-append c (next_state c v) state rows steps more vs r.1 next rest)
@@ -27,7 +28,8 @@ IsRun-append c first state [] (v ∷ steps) more vs r next rest = absurd r
 IsRun-append c first state (x ∷ rows) [] more vs r next rest = absurd r
 
 length-next : (n : Netlist) (values : List Bool) → length (next_state (circuit n) values) ≡ length n.latches
-length-next n values = length-map (map latch_of n.latches) (λ (l : plain.Latch). value values l.next) ∙ length-map n.latches latch_of
+length-next n values = length-map (map latch_of n.latches) (λ (l : plain.Latch). value values l.next)
+    ∙ length-map n.latches latch_of
 
 pub run_exists : (n : Netlist) → IsSound n → (state : List Bool) → length state ≡ length n.latches → (rows : List (List Bool))
     → All (λ row. length row ≡ length n.inputs) rows → (steps : List (List Bool)) × IsRun (circuit n) state rows steps
@@ -39,12 +41,15 @@ run_exists n sound state width (x ∷ rows) widths =
     (v.0 ∷ rest.0, (v.1, rest.1))
 
 -- an acyclic circuit has at most one run from a latch row over input rows
-pub runs_agree : (c : plain.Circuit) → plain.IsAcyclic c → (state : List Bool) (rows vs ws : List (List Bool)) → IsRun c state rows vs
+pub runs_agree : (c : plain.Circuit) → plain.IsAcyclic c → (state : List Bool) (rows vs ws : List (List Bool))
+    → IsRun c state rows vs
     → IsRun c state rows ws → vs ≡ ws
 runs_agree c acyclic state [] [] [] a b = refl
 runs_agree c acyclic state (x ∷ rows) (v ∷ vs) (w ∷ ws) a b =
     let same = agree c acyclic state x v w a.0 b.0 in
-    ap (λ u. u ∷ vs) same ∙ ap (λ us. w ∷ us) (runs_agree c acyclic (next_state c w) rows vs ws (subst (λ u. IsRun c (next_state c u) rows vs) same a.1) b.1)
+    ap (λ u. u ∷ vs) same
+    ∙ ap (λ us. w ∷ us) (runs_agree c acyclic (next_state c w) rows vs ws
+    (subst (λ u. IsRun c (next_state c u) rows vs) same a.1) b.1)
 runs_agree c acyclic state [] (v ∷ vs) ws a b = absurd a
 runs_agree c acyclic state (x ∷ rows) [] ws a b = absurd a
 runs_agree c acyclic state [] [] (w ∷ ws) a b = absurd b

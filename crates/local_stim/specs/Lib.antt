@@ -1,5 +1,6 @@
 pub mod Verdict
+pub mod Found
 pub mod Steps
 pub mod StimulusText
 pub mod StimulusReading
-pub mod FirstFault
+pub mod FirstRefusal

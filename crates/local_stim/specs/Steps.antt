@@ -20,7 +20,8 @@ IsFirstBreak t steps None = All (AssumptionsHold t.circuit t.assumed) steps
 IsFirstBreak t steps (Some b) = IsLeast (λ j. (r : ℕ) × BreaksAt t steps j r) b.step × IsLeast (BreaksAt t steps b.step) b.prop
 
 -- the run of these rows from the first latch row meets the constraints and ends in this latch row, with this first break
-pub record Replays (t : Problem) (first : List Bool) (rows : List (List Bool)) (state : List Bool) (broken : Option Broken) : Type 0 where
+pub record Replays (t : Problem) (first : List Bool) (rows : List (List Bool)) (state : List Bool)
+    (broken : Option Broken) : Type 0 where
   pub steps : List (List Bool)
   pub runs : RunsTo t.circuit first rows steps state
   pub constrained : All (MeetsConstraints t.circuit) steps

@@ -1,11 +1,12 @@
 -- Reading a stimulus text line by line: what it holds, or the first rule that it breaks.
-use Rattle.std.specs.Prelude.{ℕ, zero, suc, ◌+◌, ◌==◌, ◌||◌, Bool, not, nat_lt, if◌then◌else◌, List, [], ◌∷◌, ◌++◌, length, map, Option, Some, None, Result, Ok, Err, bytes_eq, ok_or}
+use Rattle.std.specs.Prelude.{ℕ, zero, suc, ◌+◌, ◌-◌, ◌==◌, ◌||◌, Bool, not, nat_lt, if◌then◌else◌, List, [], ◌∷◌, ◌++◌, length, map, Option, Some, None, Result, Ok, Err, bytes_eq, ok_or}
 use Rattle.std.specs.List.{list_all}
 use Rattle.ja_base.specs.Runs.{Trace}
-use Rattle.ja_text.specs.Numbers.{number_at}
+use Rattle.ja_text.specs.Numbers.{number_at, whole_number}
 use Rattle.ja_text.specs.Lines.{line_at}
 use Rattle.ja_text.specs.Reading.{◌>>=◌}
 use Rattle.aig_model.specs.Netlist.{Netlist}
+use Rattle.local_stim.specs.declared.limits.TheConstants.{MOST_BYTES, MOST_ROWS}
 use Rattle.local_stim.specs.declared.refusal.StimRefusal.{StimRefusal}
 use Rattle.local_stim.specs.declared.refusal.StimRefusal.TheVariants.{Line, Unknown, Width, Short, TooLarge}
 
@@ -30,11 +31,6 @@ unfoldable pub bits_of : ℕ → ℕ → List ℕ → Result (List Bool) StimRef
 bits_of width number line =
     if not (list_all is_row_character line) then Err (Line number) else
     if not (length line == width) then Err (Width number) else Ok (map (λ c. c == 49) line)
-
-abbrev pub whole_number : Option (ℕ × List ℕ) → Option ℕ
-whole_number None = None
-whole_number (Some (n, [])) = Some n
-whole_number (Some (n, b ∷ bs)) = None
 
 -- `b` and a number
 unfoldable pub property_of : List ℕ → Option ℕ
@@ -62,14 +58,16 @@ dot_at number rest = do
   if is_dot line.0 then Ok [] else Err TooLarge
 
 -- what is read behind a row
-abbrev pub rows_behind : (List ℕ → Result (List (List Bool)) StimRefusal) → Option (List Bool × List ℕ) → Result (List (List Bool)) StimRefusal
+abbrev pub rows_behind : (List ℕ → Result (List (List Bool)) StimRefusal) → Option (List Bool × List ℕ)
+    → Result (List (List Bool)) StimRefusal
 rows_behind others None = Ok []
 rows_behind others (Some found) = others found.1 >>= λ rows. Ok (found.0 ∷ rows)
 
 -- input rows up to the dot, at most so many
 unfoldable pub rows_at : ℕ → ℕ → ℕ → List ℕ → Result (List (List Bool)) StimRefusal
 rows_at width zero number rest = dot_at number rest
-rows_at width (suc left) number rest = next_row_at width number rest >>= λ found. rows_behind (rows_at width left (number + 1)) found
+rows_at width (suc left) number rest = next_row_at width number rest >>= λ found. rows_behind
+    (rows_at width left (number + 1)) found
 
 -- the rows that were read, and then what is read
 abbrev pub with_rows : List (List Bool) → Result (List (List Bool)) StimRefusal → Result (List (List Bool)) StimRefusal
@@ -107,4 +105,4 @@ stimulus_at most d bytes = do
 
 -- what a text of a file holds
 unfoldable pub stimulus_of : Netlist → List ℕ → Result (ℕ × Trace) StimRefusal
-stimulus_of d bytes = if nat_lt 67108864 (length bytes) then Err TooLarge else stimulus_at 999999 d bytes
+stimulus_of d bytes = if nat_lt MOST_BYTES (length bytes) then Err TooLarge else stimulus_at (MOST_ROWS - 1) d bytes

@@ -15,7 +15,9 @@ use ja_base::Row;
 /// The least latch whose reset 0 or 1 the row breaks.
 pub(crate) fn first_reset_broken(d: &Design, first: &Row) -> Option<u32>
     requires { length first.now ≡ length d.now.latches }
-    ensures latch { MatchOption result (IsInitial (circuit d.now) first.now) (IsLeast (BreaksReset (circuit d.now) first.now)) }
+    ensures latch { MatchOption result
+        (IsInitial (circuit d.now) first.now)
+        (IsLeast (BreaksReset (circuit d.now) first.now)) }
     ensures sound { IsSound d.now }
 {
     for at in 0..d.latches() {
@@ -68,7 +70,8 @@ fn breaks_assumption(task: &Task, prop: u32, vals: &Row) -> bool
 /// The least assumed property that these values break.
 pub(crate) fn first_assumed_broken(task: &Task, vals: &Row) -> Option<u32>
     requires { length vals.now ≡ task.now.design.vars + 1 }
-    ensures { MatchOption result (AssumptionsHold (circuit task.now.design) task.now.expected vals.now)
+    ensures { MatchOption result
+        (AssumptionsHold (circuit task.now.design) task.now.expected vals.now)
         (IsLeast (BreaksAssumption (problem task.now) vals.now)) }
 {
     for prop in 0..task.expect().len() {

@@ -68,7 +68,8 @@ pub(crate) fn take_step(task: &Task, stim: &Stimulus, step: u32, runner: &mut Ru
 fn first_break(task: &Task, vals: &Row, step: u32, before: Option<Broken>) -> Option<Broken>
     requires { length vals.now ≡ task.now.design.vars + 1 }
     ensures found { before ≢ None → result ≡ before }
-    ensures here { before ≡ None → MatchOption result (AssumptionsHold (circuit task.now.design) task.now.expected vals.now)
+    ensures here { before ≡ None → MatchOption result
+        (AssumptionsHold (circuit task.now.design) task.now.expected vals.now)
         (λ b. (b.step ≡ step) × IsLeast (BreaksAssumption (problem task.now) vals.now) b.prop) }
 {
     if before.is_some() {

@@ -7,7 +7,7 @@ ghost use Rattle.local_stim.specs.StimulusReading.{is_dot, is_row_character, due
 
 use crate::refusal::StimRefusal;
 use ja_base::{OrMemory, Row};
-use ja_text::{line, number};
+use ja_text::{line, whole_number};
 use std::alloc::{AllocError, Global};
 
 /// What is read, or the first refusal, or want of memory.
@@ -64,10 +64,7 @@ fn property_of(line: &[u8]) -> Option<u64>
     ensures { result ≡ property_of line.now }
 {
     match line {
-        [b'b', digits @ ..] => match number(digits) {
-            Some((property, [])) => Some(property),
-            _ => None,
-        },
+        [b'b', digits @ ..] => whole_number(digits),
         _ => None,
     }
 }
@@ -119,7 +116,8 @@ pub fn row_at(alloc: Global, width: u32, number: u64, rest: &[u8]) -> Read<(Row,
 /// The input row of a line and what follows it, or None at the dot.
 #[tactic(auto, unfolding(crate::specs::StimulusReading::next_row_at))]
 pub fn next_row(alloc: Global, width: u32, number: u64, rest: &[u8]) -> Read<Option<(Row, &[u8])>>
-    ensures { Gives (λ found. option_map (λ x. (x.0, x.1.now)) found) result (next_row_at width number rest.now) }
+    ensures { Gives (λ found. option_map (λ x. (x.0, x.1.now)) found) result
+        (next_row_at width number rest.now) }
 {
     let (line, rest) = due_line(number, rest)?;
     if is_dot(line) {

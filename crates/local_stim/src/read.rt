@@ -6,23 +6,19 @@ ghost use Rattle.ja_base.specs.Runs.{Trace};
 ghost use Rattle.ja_text.specs.Reading.{Gives};
 ghost use Rattle.local_stim.specs.StimulusReading.{rows_at, with_rows, stimulus_at, stimulus_of};
 ghost use Rattle.local_stim.specs.StimulusText.{IsStimulusText};
-ghost use Rattle.local_stim.specs.FirstFault.{IsFirstFault};
+ghost use Rattle.local_stim.specs.FirstRefusal.{IsFirstRefusal};
 
+use crate::limits::{MOST_BYTES, MOST_ROWS};
 use crate::lines::{Read, after_one, dot_at, next_row, property_at, row_at};
 use crate::refusal::StimRefusal;
 use aig_model::{Design, Stimulus};
 use ja_base::{OrMemory, Row, Rows};
 use std::alloc::Global;
 
-/// The most input rows behind the first one.
-const MORE_ROWS: u32 = 999_999;
-
-/// The most bytes that a text may have.
-const MOST_BYTES: usize = 67_108_864;
-
 /// The input rows: the first one, and those up to the dot, at most `most`.
 fn rows_of(alloc: Global, width: u32, most: u32, first: Row, bytes: &[u8]) -> Read<Rows>
-    ensures { Gives (λ rows. rows) result (with_rows (first ∷ []) (rows_at width most 5 bytes.now)) }
+    ensures { Gives (λ rows. rows) result
+        (with_rows (first ∷ []) (rows_at width most 5 bytes.now)) }
 {
     let mut rows = Rows::one(alloc, first)?;
     let mut rest = bytes;
@@ -58,9 +54,11 @@ pub fn read_stim(
     design: &Design,
 ) -> Result<(u32, Stimulus), OrMemory<StimRefusal>>
     ensures found { IfOk result (λ x. IsStimulusText design.now bytes.now x.0 x.1) }
-    ensures only { (p : ℕ) (m : Trace) → IsStimulusText design.now bytes.now p m → IfOk result (λ x. (x.0 ≡ p) × (x.1 ≡ m)) }
-    ensures refused { IfRefused result (IsFirstFault design.now bytes.now) }
-    ensures none { IfRefused result (λ _. (p : ℕ) (m : Trace) → IsStimulusText design.now bytes.now p m → ⊥) }
+    ensures only { (p : ℕ) (m : Trace) → IsStimulusText design.now bytes.now p m
+        → IfOk result (λ x. (x.0 ≡ p) × (x.1 ≡ m)) }
+    ensures refused { IfRefused result (IsFirstRefusal design.now bytes.now) }
+    ensures not_refused { (p : ℕ) (m : Trace) → IsStimulusText design.now bytes.now p m
+        → IfRefused result (λ _. ⊥) }
 {
     let found = read_exactly(alloc, bytes, design)?;
     Ok(found)
@@ -73,6 +71,6 @@ fn read_exactly(alloc: Global, bytes: &[u8], design: &Design) -> Read<(u32, Stim
     if bytes.len() > MOST_BYTES {
         return Err(OrMemory::Refused(StimRefusal::TooLarge));
     }
-    let found = stimulus_at(alloc, MORE_ROWS, bytes, design)?;
+    let found = stimulus_at(alloc, MOST_ROWS - 1, bytes, design)?;
     Ok(found)
 }

@@ -23,7 +23,8 @@ pub fn confirm(alloc: Global, task: &Task, prop: u32, stim: &Stimulus) -> Result
     requires rows { All (λ row. length row ≡ length task.now.design.inputs) stim.now.inputs }
     ensures verdict { IfOk result (IsVerdict (problem task.now) prop stim.now) }
     ensures local { result ≡ Ok Confirm.Local → IsLocalFailure (problem task.now) prop stim.now }
-    ensures only { IsLocalFailure (problem task.now) prop stim.now → IfOk result (λ verdict. verdict ≡ Confirm.Local) }
+    ensures only { IsLocalFailure (problem task.now) prop stim.now
+        → IfOk result (λ verdict. verdict ≡ Confirm.Local) }
 {
     let verdict = replay(alloc, task, prop, stim)?;
     Ok(verdict)
@@ -59,7 +60,8 @@ fn take_last(
     requires initial { IsInitial (circuit task.now.design) stim.now.first }
     requires rows { All (λ row. length row ≡ length task.now.design.inputs) stim.now.inputs }
     requires fits { Fits (circuit task.now.design) runner.old }
-    requires earlier { Replays (problem task.now) stim.now.first (earlier_rows stim.now) runner.old.state broken }
+    requires earlier { Replays (problem task.now) stim.now.first (earlier_rows stim.now)
+        runner.old.state broken }
     ensures { IsVerdict (problem task.now) prop stim.now result }
 {
     let last = stim.inputs().len() - 1;

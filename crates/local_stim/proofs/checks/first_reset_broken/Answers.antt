@@ -7,8 +7,11 @@ use Rattle.local_stim.proofs.checks.first_reset_broken.Goals as goal
 
 pub returns-then-breaks_reset-clause-latch : goal.returns-then-breaks_reset-clause-latch
 returns-then-breaks_reset-clause-latch c =
-    let n = c.args.d.now in
-    (breaks_reset n c.args.first.now c.loop-at.at c.latch.result c.latch.ensures (rw (← c.get.ensures) (c.breaks_reset.ensures.0 c.if-breaks_reset.true)), c.loop-at.invariant)
+    let n = c.args.d.now in (
+      breaks_reset n c.args.first.now c.loop-at.at c.latch.result c.latch.ensures
+          (rw (← c.get.ensures) (c.breaks_reset.ensures.0 c.if-breaks_reset.true)),
+      c.loop-at.invariant,
+    )
 
 pub loop-at-preserved : goal.loop-at-preserved
 loop-at-preserved c =

@@ -21,5 +21,8 @@ returns-then-not-lit_of c =
     )
 
 pub returns : goal.returns
-returns c =
-    (λ t. all_from_gets (λ l. value c.args.vals.now l ≡ true) c.args.d.now.constraints (λ k x h e. c.loop-at.invariant k x (omega arith) e), λ met. refl)
+returns c = (
+  λ t. all_from_gets (λ l. value c.args.vals.now l ≡ true) c.args.d.now.constraints
+      (λ k x h e. c.loop-at.invariant k x (omega arith) e),
+  λ met. refl,
+)

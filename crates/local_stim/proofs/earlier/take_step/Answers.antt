@@ -10,5 +10,6 @@ returns-clause-run c = λ steps r.
     let after = steps ++ c.step.new.self.values ∷ [] in
     let is = subst (λ rows. slice_get rows c.args.step ≡ Some c.get.result.now) c.inputs.ensures c.get.ensures in
     let run = rw c.design-design.ensures.value at c.step.ensures.run in
-    subst (λ rows. RunsTo (circuit c.args.task.now.design) m.first rows after c.step.new.self.state) (rows_more m.inputs c.args.step c.get.result.now is)
+    subst (λ rows. RunsTo (circuit c.args.task.now.design) m.first rows after c.step.new.self.state)
+    (rows_more m.inputs c.args.step c.get.result.now is)
     (run m.first (take c.args.step m.inputs) steps r)

@@ -5,4 +5,5 @@ use Rattle.local_stim.proofs.read.rows_of.Given as goal
 
 abbrev pub invariant-loop-done : goal.invariant-loop-done
 invariant-loop-done l =
-    with_rows l.rows (rows_at l.width (l.most - l.done) (5 + l.done) l.rest) ≡ with_rows (l.fn.first ∷ []) (rows_at l.width l.most 5 l.fn.bytes)
+    with_rows l.rows (rows_at l.width (l.most - l.done) (5 + l.done) l.rest) ≡ with_rows (l.fn.first ∷ [])
+    (rows_at l.width l.most 5 l.fn.bytes)
