@@ -2,7 +2,8 @@
 use Rattle.std.proofs.Common.{◌≡◌, ℕ, ◌&&◌, Bool, true, false, not, cond, List, [], ◌∷◌, refl}
 use Rattle.ja_base.specs.Literals.{bit, negated}
 use Rattle.refute_check.specs.declared.found.Found.TheVariants.{Forces, Other}
-use Rattle.refute_check.specs.Lines.{found_of, open_lits, are_false}
+use Rattle.ja_base.specs.Trails.{open_lits}
+use Rattle.refute_check.specs.Lines.{found_of, are_false}
 
 -- no literal is left where each is false
 no_lits : (row : List Bool) (lits : List ℕ) → are_false row lits ≡ true → open_lits row lits ≡ []

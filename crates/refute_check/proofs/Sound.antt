@@ -8,7 +8,8 @@ use Rattle.ja_base.specs.Literals.{bit, negated, value, SatisfiedBy, AllSatisfie
 use Rattle.ja_base.proofs.LiteralLemmas.{value_negated}
 use Rattle.refute_check.specs.declared.found.Found.{Found}
 use Rattle.refute_check.specs.declared.found.Found.TheVariants.{False, Forces, Other}
-use Rattle.refute_check.specs.Lines.{found_of, found_at, judged, open_lits, outcome, assumed, unknown, is_fit, refusal}
+use Rattle.ja_base.specs.Trails.{open_lits}
+use Rattle.refute_check.specs.Lines.{found_of, found_at, judged, outcome, assumed, unknown, is_fit, refusal}
 use Rattle.refute_check.specs.Checked.{FollowsOne}
 use Rattle.refute_check.proofs.Undone.{bit_unknown}
 

@@ -4,7 +4,8 @@ use Rattle.std.proofs.Math.ListN.{length-set}
 use Rattle.ja_base.specs.Literals.{bit, negated}
 use Rattle.refute_check.specs.declared.found.Found.{Found}
 use Rattle.refute_check.specs.declared.found.Found.TheVariants.{False, Forces, Other}
-use Rattle.refute_check.specs.Lines.{found_of, found_at, judged, open_lits, outcome, assumed, withdrawn, cleared, cleared_at, released, unknown}
+use Rattle.ja_base.specs.Trails.{open_lits}
+use Rattle.refute_check.specs.Lines.{found_of, found_at, judged, outcome, assumed, withdrawn, cleared, cleared_at, released, unknown}
 
 -- l is one of these
 abbrev In : ℕ → List ℕ → Type 0

@@ -1,15 +1,12 @@
 -- When a line is accepted by unit propagation over a numbered list of clauses. What is known is a row with one bit a
 -- literal, set where the literal is true; a literal is false where its negation is true.
-use Rattle.std.specs.Prelude.{ℕ, ◌+◌, ◌*◌, ◌==◌, ◌&&◌, Bool, true, false, not, nat_lt, if◌then◌else◌, List, [], ◌∷◌, replicate, slice_set, slice_get, filter, Option, Some, None, is_none}
+use Rattle.std.specs.Prelude.{ℕ, ◌+◌, ◌*◌, ◌==◌, ◌&&◌, Bool, true, false, not, nat_lt, if◌then◌else◌, List, [], ◌∷◌, replicate, slice_set, slice_get, Option, Some, None, is_none}
 use Rattle.std.specs.List.{list_all}
 use Rattle.ja_base.specs.Literals.{bit, variable, negated}
+use Rattle.ja_base.specs.Trails.{open_lits}
 use Rattle.refute_check.specs.Refuted.{has_both_signs}
 use Rattle.refute_check.specs.declared.found.Found.{Found}
 use Rattle.refute_check.specs.declared.found.Found.TheVariants.{False, Forces, Other}
-
--- the literals of a clause that are not false
-abbrev pub open_lits : List Bool → List ℕ → List ℕ
-open_lits row clause = filter (λ l. not (bit row (negated l))) clause
 
 -- each literal of the clause is false
 abbrev pub are_false : List Bool → List ℕ → Bool

@@ -86,7 +86,8 @@ impl Checker {
     /// Takes a line that unit propagation accepts, and tells its number; or gives the line back. No memory is taken.
     pub fn line(&mut self, line: Line) -> Result<u32, LineRefused>
         requires { 0 < self.old.spare }
-        ensures exact { is_ok result ≡ accepts_line self.old.vars self.old.list line.clause line.hints }
+        ensures exact { is_ok result
+            ≡ accepts_line self.old.vars self.old.list line.clause line.hints }
         ensures number { IfOk result (λ n. n ≡ length self.old.list) }
         ensures ok { OnOk result (self.new ≡ with_line self.old line.clause) }
         ensures follows { OnOk result (FollowsOne self.old.added line.clause) }
@@ -115,9 +116,9 @@ impl Checker {
     }
 
     /// Drops the lines that came after the last added clause.
-    pub fn keep(&mut self)
+    pub fn forget_lines(&mut self)
         ensures { self.new ≡ without_lines self.old }
     {
-        self.clauses.keep();
+        self.clauses.forget_lines();
     }
 }

@@ -16,7 +16,7 @@ mod tests;
 
 pub use checker::{Checker, LineRefused};
 pub use found::Found;
-pub use laws::{accepted_lines_hold, what_is_covered_is_refuted};
+pub use laws::{accepted_lines_hold, what_is_covered_is_refuted, what_lines_refute_is_refuted};
 pub use lines::{Hints, Line, Lines, Proofs, Refuted};
 pub use numbered::Numbered;
 pub use propagate::{assume, scan};

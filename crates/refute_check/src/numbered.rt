@@ -73,7 +73,10 @@ impl Numbered {
     /// The clause of an accepted line takes the next number.
     pub fn put(&mut self, clause: Clause)
         requires { 0 < self.old.spare }
-        ensures { self.new ≡ record self.old { list = self.old.list ++ clause ∷ []; spare = self.old.spare - 1 } }
+        ensures { self.new ≡ record self.old {
+          list = self.old.list ++ clause ∷ [];
+          spare = self.old.spare - 1;
+        } }
     {
         self.clauses.push_reserved(clause);
     }
@@ -111,7 +114,7 @@ impl Numbered {
     }
 
     /// Drops the lines that came after the last added clause.
-    pub fn keep(&mut self)
+    pub fn forget_lines(&mut self)
         ensures { self.new ≡ record self.old {
           list = take self.old.kept self.old.list;
           spare = self.old.spare + (length self.old.list - self.old.kept);

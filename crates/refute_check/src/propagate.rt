@@ -2,7 +2,8 @@
 //! literals again, so a line costs only the clauses that its hints name.
 
 ghost use Rattle.std.specs.Prelude.{◌≡◌, ℕ, ◌+◌, ◌^◌, ◌<◌, ◌∷◌, length, slice_get, All};
-ghost use Rattle.refute_check.specs.Lines.{found_of, found_at, open_lits, are_false, outcome, assumed, withdrawn, cleared, cleared_at, released};
+ghost use Rattle.ja_base.specs.Trails.{open_lits};
+ghost use Rattle.refute_check.specs.Lines.{found_of, found_at, are_false, outcome, assumed, withdrawn, cleared, cleared_at, released};
 ghost use Rattle.refute_check.specs.Spans.{Spans, IfForces};
 
 use crate::found::Found;

@@ -80,7 +80,7 @@ fn drops_lines(rt: HostRuntime) -> Result<(), Fail> {
     for _ in 0..2 {
         assert_eq!(rt; take(alloc, &mut checker, &[Lit(4)], &[0, 1])?, Ok(2));
         assert_eq!(rt; take(alloc, &mut checker, &[Lit(2), Lit(4)], &[2])?, Ok(3));
-        checker.keep();
+        checker.forget_lines();
         assert!(rt; !checker.covers(&[Lit(5)]));
     }
     assert_eq!(rt; take(alloc, &mut checker, &[Lit(2), Lit(4)], &[2])?, Err(0));

@@ -4,7 +4,7 @@ use Rattle.std.specs.List.{flat_map}
 use Rattle.std.proofs.lemmas.List.{append-nil, length-append, nil_from_length}
 use Rattle.ja_text.specs.Repeated.{Chain}
 use Rattle.refute_check.specs.declared.lines.Line.{Line}
-use Rattle.refute_text.specs.RefutationText.{spaced, line_text, refutation_text, IsLine, AreLines, TakesLine, IsFirstBadLine}
+use Rattle.refute_text.specs.RefutationText.{spaced, line_text, refutation_text, IsLine, AreLines, TakesLine, IsFirstBadLine, Spells}
 use Rattle.refute_text.specs.Reading.{TakesNone, TakesAll}
 use Rattle.refute_text.proofs.ChainLemmas.{all_agree, Chain-spelled, Chain-good, regroup}
 use Rattle.refute_text.proofs.LineLemmas.{line_one}
@@ -32,17 +32,21 @@ before : (bytes : List ℕ) (at : ℕ) (bad : IsFirstBadLine bytes at) → Takes
 before bytes at bad =
     subst (λ (s : List ℕ). TakesAll TakesLine s bad.lines bad.rest) (sym bad.parts) (record { taken = lines_chain bad.lines bad.rest bad.are_lines; ends = bad.none })
 
-pub text_one : (a b : List Line) → AreLines a → AreLines b → refutation_text a ≡ refutation_text b → a ≡ b
-text_one a b g h e = (all_agree TakesLine line_one (refutation_text a) a [] b [] (whole a (refutation_text a) g refl) (whole b (refutation_text a) h e)).0
+pub text_one : (bytes : List ℕ) (a b : List Line) → Spells bytes a → Spells bytes b → a ≡ b
+text_one bytes a b g h =
+    let left = whole a bytes g.are_lines g.text in
+    let right = whole b bytes h.are_lines h.text in
+    (all_agree TakesLine line_one bytes a [] b [] left right).0
 
 pub bad_one : (bytes : List ℕ) (i j : ℕ) → IsFirstBadLine bytes i → IsFirstBadLine bytes j → i ≡ j
 bad_one bytes i j p q =
     let same = (all_agree TakesLine line_one bytes p.lines p.rest q.lines q.rest (before bytes i p) (before bytes j q)).0 in
     p.place ∙ ap (λ (lines : List Line). length (refutation_text lines)) same ∙ sym q.place
 
-pub not_bad : (lines : List Line) (at : ℕ) → AreLines lines → IsFirstBadLine (refutation_text lines) at → ⊥
-not_bad lines at are bad =
-    let same : [] ≡ bad.rest = (all_agree TakesLine line_one (refutation_text lines) lines [] bad.lines bad.rest (whole lines (refutation_text lines) are refl) (before (refutation_text lines) at bad)).1 in
+pub not_bad : (bytes : List ℕ) (lines : List Line) (at : ℕ) → Spells bytes lines → IsFirstBadLine bytes at → ⊥
+not_bad bytes lines at spells bad =
+    let taken = whole lines bytes spells.are_lines spells.text in
+    let same : [] ≡ bad.rest = (all_agree TakesLine line_one bytes lines [] bad.lines bad.rest taken (before bytes at bad)).1 in
     absurd (omega (arith, ap length same, bad.some))
 
 -- ---- as the reader goes
@@ -68,17 +72,22 @@ bad_place bytes lines rest at taken some none place =
     }
 
 -- the bytes that were refused are no text
-pub no_text : (bytes : List ℕ) (at : ℕ) → IsFirstBadLine bytes at → (lines : List Line) → AreLines lines → bytes ≡ refutation_text lines → ⊥
-no_text bytes at bad lines are e = not_bad lines at are (subst (λ (s : List ℕ). IsFirstBadLine s at) e bad)
+pub no_text : (bytes : List ℕ) (at : ℕ) → IsFirstBadLine bytes at → (lines : List Line) → Spells bytes lines → ⊥
+no_text bytes at bad lines spells = not_bad bytes lines at spells bad
 
-pub is_text : (bytes : List ℕ) (lines : List Line) (rest : List ℕ) → Chain TakesLine bytes lines rest → length rest ≡ 0 → bytes ≡ refutation_text lines
+pub is_text : (bytes : List ℕ) (lines : List Line) (rest : List ℕ) → Chain TakesLine bytes lines rest → length rest ≡ 0
+    → Spells bytes lines
 is_text bytes lines rest taken ended =
-    spelled bytes lines rest taken ∙ ap (λ (v : List ℕ). refutation_text lines ++ v) (nil_from_length rest ended) ∙ append-nil (refutation_text lines)
+    let all = ap (λ (v : List ℕ). refutation_text lines ++ v) (nil_from_length rest ended) in
+    record {
+      are_lines = are_lines bytes lines rest taken;
+      text = spelled bytes lines rest taken ∙ all ∙ append-nil (refutation_text lines);
+    }
 
 pub only_text : (bytes : List ℕ) (lines : List Line) (rest : List ℕ) → Chain TakesLine bytes lines rest → length rest ≡ 0
-    → (others : List Line) → AreLines others → bytes ≡ refutation_text others → lines ≡ others
-only_text bytes lines rest taken ended others are e =
-    text_one lines others (are_lines bytes lines rest taken) are (sym (is_text bytes lines rest taken ended) ∙ e)
+    → (others : List Line) → Spells bytes others → lines ≡ others
+only_text bytes lines rest taken ended others spells =
+    text_one bytes lines others (is_text bytes lines rest taken ended) spells
 
 pub not_longer : (bytes : List ℕ) (lines : List Line) (rest : List ℕ) → Chain TakesLine bytes lines rest → length rest ≤ length bytes
 not_longer bytes lines rest taken = omega (arith, ap length (spelled bytes lines rest taken), length-append (refutation_text lines) rest)

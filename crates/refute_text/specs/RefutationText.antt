@@ -12,6 +12,7 @@ spaced n = 32 ∷ decimal n
 abbrev pub line_text : Line → List ℕ
 line_text line = flat_map spaced line.clause ++ 32 ∷ 59 ∷ flat_map spaced line.hints ++ 10 ∷ []
 
+-- the texts of the lines, one behind the other
 abbrev pub refutation_text : List Line → List ℕ
 refutation_text lines = flat_map line_text lines
 
@@ -25,8 +26,14 @@ pub record IsLine (line : Line) : Type 0 where
   pub lits : AreSmall line.clause
   pub hints : AreSmall line.hints
 
+-- each of these is a line
 abbrev pub AreLines : List Line → Type 0
 AreLines lines = AllByRecursion IsLine lines
+
+-- the bytes are the text of these lines
+pub record Spells (bytes : List ℕ) (lines : List Line) : Type 0 where
+  pub are_lines : AreLines lines
+  pub text : bytes ≡ refutation_text lines
 
 -- the text of a line stands at the front, and the rest behind it
 pub record TakesLine (bytes : List ℕ) (line : Line) (rest : List ℕ) : Type 0 where

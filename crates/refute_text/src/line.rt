@@ -40,7 +40,8 @@ fn clause_of(alloc: Global, numbers: &[u32]) -> Result<Clause, Memory>
 
 /// The line at the front, if one stands there, and what follows it.
 pub fn take_line(alloc: Global, bytes: &[u8]) -> Result<Option<(Line, &[u8])>, Memory>
-    ensures read { IfOk result (λ found. MatchOption found (TakesNone TakesLine bytes.now) (λ x. TakesLine bytes.now x.0 x.1.now)) }
+    ensures read { IfOk result (λ found. MatchOption found
+        (TakesNone TakesLine bytes.now) (λ x. TakesLine bytes.now x.0 x.1.now)) }
     ensures shorter { IfOk result (λ found. IfSome found (λ x. length x.1.now < length bytes.now)) }
 {
     let (lits, rest) = take_numbers(alloc, bytes)?;

@@ -1,5 +1,6 @@
 use Rattle.std.proofs.Common.{◌≡◌, drop}
-use Rattle.refute_check.specs.Lines.{found_of, open_lits}
+use Rattle.ja_base.specs.Trails.{open_lits}
+use Rattle.refute_check.specs.Lines.{found_of}
 use Rattle.refute_check.proofs.propagate.scan.Given as goal
 
 abbrev pub invariant-loop-at : goal.invariant-loop-at

@@ -1,9 +1,8 @@
-use Rattle.std.proofs.Common.{List, ℕ, subst, ◌∙◌}
-use Rattle.ja_base.specs.Clauses.{IsSetOf}
-use Rattle.refute_text.proofs.ClauseLemmas.{set_of_ascending}
+use Rattle.std.proofs.Common.{sym, subst, ◌∙◌}
+use Rattle.std.specs.List.Sorted.{IsStrictlyIncreasing}
 use Rattle.refute_text.proofs.line.clause_of.Goals as goal
 
 pub returns : goal.returns
 returns c =
-    let P : List ℕ → Type 0 = λ lits. IsSetOf lits c.in_ok-clause.clause in
-    set_of_ascending c.args.numbers.now c.in_ok-clause.clause c.requires (subst P (c.as_slice.ensures.value ∙ c.in_ok-lits.ensures) c.in_ok-clause.ensures)
+    let same = c.as_slice.ensures.value ∙ c.in_ok-lits.ensures in
+    c.in_ok-clause.ensures.ascending (subst IsStrictlyIncreasing (sym same) c.requires) ∙ same

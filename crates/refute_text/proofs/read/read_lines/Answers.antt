@@ -23,10 +23,16 @@ pub loop-rest-preserved : goal.loop-rest-preserved
 loop-rest-preserved c =
     let taken = rw c.in-Some.is at c.in_ok-line.ensures.read in
     let P : List Line → Type 0 = λ lines. Chain TakesLine c.args.bytes.now lines c.in-Some.after.now in
-    subst P (sym c.in_ok-push.ensures.ok) (Chain-more TakesLine c.args.bytes.now c.loop-rest.lines c.loop-rest.rest.now c.in-Some.line c.in-Some.after.now c.loop-rest.invariant taken)
+    let more = Chain-more TakesLine c.args.bytes.now c.loop-rest.lines c.loop-rest.rest.now c.in-Some.line c.in-Some.after.now
+    c.loop-rest.invariant taken in
+    subst P (sym c.in_ok-push.ensures.ok) more
 
 pub returns-clause-found : goal.returns-clause-found
-returns-clause-found c = is_text c.args.bytes.now c.loop-rest.lines c.loop-rest.rest.now c.loop-rest.invariant (eqb-true (length c.loop-rest.rest.now) 0 (sym c.is_empty.ensures ∙ c.loop-rest-test.false))
+returns-clause-found c =
+    let ended = eqb-true (length c.loop-rest.rest.now) 0 (sym c.is_empty.ensures ∙ c.loop-rest-test.false) in
+    is_text c.args.bytes.now c.loop-rest.lines c.loop-rest.rest.now c.loop-rest.invariant ended
 
 pub returns-clause-only : goal.returns-clause-only
-returns-clause-only c = only_text c.args.bytes.now c.loop-rest.lines c.loop-rest.rest.now c.loop-rest.invariant (eqb-true (length c.loop-rest.rest.now) 0 (sym c.is_empty.ensures ∙ c.loop-rest-test.false))
+returns-clause-only c =
+    let ended = eqb-true (length c.loop-rest.rest.now) 0 (sym c.is_empty.ensures ∙ c.loop-rest-test.false) in
+    only_text c.args.bytes.now c.loop-rest.lines c.loop-rest.rest.now c.loop-rest.invariant ended

@@ -2,7 +2,7 @@ use Rattle.std.proofs.Common.{◌≡◌, ℕ, ◌+◌, ◌-◌, ◌≤◌, List,
 use Rattle.std.proofs.lemmas.List.{length-take}
 use Rattle.refute_check.specs.Checked.{Numbering, clauses_at}
 use Rattle.refute_check.proofs.ListLemmas.{clauses_at_take, same_numbering}
-use Rattle.refute_check.proofs.numbered.Numbered.keep.Goals as goal
+use Rattle.refute_check.proofs.numbered.Numbered.forget_lines.Goals as goal
 
 pub returns : goal.returns
 returns c =
