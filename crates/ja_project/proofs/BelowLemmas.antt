@@ -14,8 +14,10 @@ use Rattle.ja_project.proofs.EachLemmas.{each_from_places}
 use Rattle.ja_project.proofs.ClauseLemmas.{each_of_clause}
 use Rattle.ja_project.proofs.StepLemmas.{from_parts, variable_of}
 
-clause_is_below : (vars : ℕ) (lits : List ℕ) → AllByRecursion (λ l. variable l < vars + 1) lits → IsBelow (vars + 1) (clause_of lits)
-clause_is_below vars lits h = All-from_recursion (λ l. variable l < vars + 1) (clause_of lits) (each_of_clause (λ l. variable l < vars + 1) lits h)
+clause_is_below : (vars : ℕ) (lits : List ℕ) → AllByRecursion (λ l. variable l < vars + 1) lits
+    → IsBelow (vars + 1) (clause_of lits)
+clause_is_below vars lits h = All-from_recursion (λ l. variable l < vars + 1) (clause_of lits)
+    (each_of_clause (λ l. variable l < vars + 1) lits h)
 
 pub lit_is_below : (vars l : ℕ) → l ≤ 2 * vars + 1 → variable l < vars + 1
 lit_is_below vars l h = omega arith
@@ -33,10 +35,12 @@ gate_is_below n k g sound =
     let rhs1 = lit_is_below n.vars g.rhs1 sound.rhs1.within in
     let left = clause_is_below n.vars (negated g.lhs ∷ g.rhs0 ∷ []) (negated_is_below n.vars g.lhs lhs, (rhs0, tt)) in
     let right = clause_is_below n.vars (negated g.lhs ∷ g.rhs1 ∷ []) (negated_is_below n.vars g.lhs lhs, (rhs1, tt)) in
-    let both = clause_is_below n.vars (g.lhs ∷ negated g.rhs0 ∷ negated g.rhs1 ∷ []) (lhs, (negated_is_below n.vars g.rhs0 rhs0, (negated_is_below n.vars g.rhs1 rhs1, tt))) in
+    let both = clause_is_below n.vars (g.lhs ∷ negated g.rhs0 ∷ negated g.rhs1 ∷ [])
+    (lhs, (negated_is_below n.vars g.rhs0 rhs0, (negated_is_below n.vars g.rhs1 rhs1, tt))) in
     (left, (right, (both, tt)))
 
-undefined_is_below : (vars u : ℕ) (b : Bool) → u < 1 + vars → AllByRecursion (IsBelow (vars + 1)) (cond b [] ((literal_of u true ∷ []) ∷ []))
+undefined_is_below : (vars u : ℕ) (b : Bool) → u < 1 + vars
+    → AllByRecursion (IsBelow (vars + 1)) (cond b [] ((literal_of u true ∷ []) ∷ []))
 undefined_is_below vars u true high = tt
 undefined_is_below vars u false high = (clause_is_below vars (literal_of u true ∷ []) (omega (arith, variable_of u), tt), tt)
 

@@ -5,7 +5,7 @@ use Rattle.std.proofs.lemmas.Bool.Decides.{nat_tests}
 use Rattle.ja_base.specs.Clauses.{IsSetOf}
 use Rattle.ja_base.proofs.ClauseLemmas.{IsAbove, IsAbove-lower, Ascends, Ascends-from_increasing, has_literal_decides}
 use Rattle.ja_project.specs.CodedClauses.{with_literal, clause_of}
-use Rattle.ja_project.proofs.SetLemmas.{IsPart, same_members}
+use Rattle.ja_base.proofs.SetLemmas.{IsPart, same_members}
 
 or_twice : (a b : Bool) → (a || b) ≡ (a || (a || b))
 or_twice true b = refl
@@ -38,7 +38,8 @@ IsAbove-with : (x l : ℕ) (clause : List ℕ) → x < l → IsAbove x clause �
 IsAbove-with x l [] below h = (below, tt)
 IsAbove-with x l (m ∷ ms) below h = by_test (eqb l m) (ltb l m) (IsAbove-with x l ms below h.1)
   where
-    by_test : (t s : Bool) → IsAbove x (with_literal l ms) → IsAbove x (cond t (m ∷ ms) (cond s (l ∷ m ∷ ms) (m ∷ with_literal l ms)))
+    by_test : (t s : Bool) → IsAbove x (with_literal l ms)
+        → IsAbove x (cond t (m ∷ ms) (cond s (l ∷ m ∷ ms) (m ∷ with_literal l ms)))
     by_test true s later = h
     by_test false true later = (below, h)
     by_test false false later = (h.0, later)
@@ -47,9 +48,11 @@ Ascends-with : (l : ℕ) (clause : List ℕ) → Ascends clause → Ascends (wit
 Ascends-with l [] h = (tt, tt)
 Ascends-with l (m ∷ ms) h = by_test (eqb l m) (ltb l m) refl refl (Ascends-with l ms h.1)
   where
-    by_test : (t s : Bool) → t ≡ eqb l m → s ≡ ltb l m → Ascends (with_literal l ms) → Ascends (cond t (m ∷ ms) (cond s (l ∷ m ∷ ms) (m ∷ with_literal l ms)))
+    by_test : (t s : Bool) → t ≡ eqb l m → s ≡ ltb l m → Ascends (with_literal l ms)
+        → Ascends (cond t (m ∷ ms) (cond s (l ∷ m ∷ ms) (m ∷ with_literal l ms)))
     by_test true s e f later = h
-    by_test false true e f later = let below : l < m = grind (arith, nat_tests) in ((below, IsAbove-lower l m ms (omega arith) h.0), h)
+    by_test false true e f later = let below : l < m = grind
+        (arith, nat_tests) in ((below, IsAbove-lower l m ms (omega arith) h.0), h)
     by_test false false e f later = let above : m < l = grind (arith, nat_tests) in (IsAbove-with m l ms above h.0, later)
 
 Ascends-clause : (lits : List ℕ) → Ascends (clause_of lits)
@@ -76,7 +79,8 @@ module _ (P : ℕ → Type 0) where
   each_with l [] here h = (here, tt)
   each_with l (m ∷ ms) here h = by_test (eqb l m) (ltb l m) (each_with l ms here h.1)
     where
-      by_test : (t s : Bool) → AllByRecursion P (with_literal l ms) → AllByRecursion P (cond t (m ∷ ms) (cond s (l ∷ m ∷ ms) (m ∷ with_literal l ms)))
+      by_test : (t s : Bool) → AllByRecursion P (with_literal l ms)
+          → AllByRecursion P (cond t (m ∷ ms) (cond s (l ∷ m ∷ ms) (m ∷ with_literal l ms)))
       by_test true s later = h
       by_test false true later = (here, h)
       by_test false false later = (h.0, later)

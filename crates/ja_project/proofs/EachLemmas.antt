@@ -35,11 +35,14 @@ module _ {X Y : Type 0} (P : Y → Type 0) where
   each_unmapped f [] h = tt
   each_unmapped f (x ∷ xs) h = (h.0, each_unmapped f xs h.1)
 
-  pub each_flattened : (f : X → List Y) (xs : List X) → AllByRecursion (λ x. AllByRecursion P (f x)) xs → AllByRecursion P (flat_map f xs)
+  pub each_flattened : (f : X → List Y) (xs : List X) → AllByRecursion (λ x. AllByRecursion P (f x)) xs
+      → AllByRecursion P (flat_map f xs)
   each_flattened f [] h = tt
-  each_flattened f (x ∷ xs) h = subst (AllByRecursion P) (sym (flat_map-cons f x xs)) (each_joined P (f x) (flat_map f xs) h.0 (each_flattened f xs h.1))
+  each_flattened f (x ∷ xs) h = subst (AllByRecursion P) (sym (flat_map-cons f x xs))
+      (each_joined P (f x) (flat_map f xs) h.0 (each_flattened f xs h.1))
 
-  pub each_unflattened : (f : X → List Y) (xs : List X) → AllByRecursion P (flat_map f xs) → AllByRecursion (λ x. AllByRecursion P (f x)) xs
+  pub each_unflattened : (f : X → List Y) (xs : List X) → AllByRecursion P (flat_map f xs)
+      → AllByRecursion (λ x. AllByRecursion P (f x)) xs
   each_unflattened f [] h = tt
   each_unflattened f (x ∷ xs) h =
       let g = subst (AllByRecursion P) (flat_map-cons f x xs) h in
@@ -57,4 +60,5 @@ module _ (P : ℕ → Type 0) where
 
   pub each_of_range : (a n : ℕ) → ((u : ℕ) → a ≤ u → u < a + n → P u) → AllByRecursion P (range_with_len a n)
   each_of_range a zero h = tt
-  each_of_range a (suc n) h = (h a (omega arith) (omega arith), each_of_range (a + 1) n (λ u low high. h u (omega arith) (omega arith)))
+  each_of_range a
+      (suc n) h = (h a (omega arith) (omega arith), each_of_range (a + 1) n (λ u low high. h u (omega arith) (omega arith)))

@@ -1,5 +1,4 @@
 pub mod EachLemmas
-pub mod SetLemmas
 pub mod ClauseLemmas
 pub mod GateLemmas
 pub mod DefinedLemmas
@@ -7,5 +6,11 @@ pub mod RangeLemmas
 pub mod StepLemmas
 pub mod BelowLemmas
 pub mod HeldLemmas
+pub mod OverLemmas
 pub mod NextLemmas
 pub mod CodingLemmas
+pub mod ForeignLemmas
+pub mod ValueLemmas
+pub mod StartLemmas
+pub mod ResetLemmas
+pub mod CutLemmas

@@ -64,31 +64,45 @@ module _ (P : List ℕ → Type 0) (n : Netlist) where
   parts_of h =
       let front = each_left P (gates_part n ++ undefined_part n) (constraints_part n) h.1 in
       let gates = each_unflattened P gate_clauses n.gates (each_left P (gates_part n) (undefined_part n) front) in
-      let undefined = each_unflattened P (undefined_clauses n) (range_with_len 1 n.vars) (each_right P (gates_part n) (undefined_part n) front) in
+      let undefined = each_unflattened P (undefined_clauses n) (range_with_len 1 n.vars)
+      (each_right P (gates_part n) (undefined_part n) front) in
       record {
         constant = h.0;
         gates = λ k g is. each_at (λ g. AllByRecursion P (gate_clauses g)) n.gates k g gates is;
         undefined = λ u low high. each_in_range (λ u. AllByRecursion P (undefined_clauses n u)) 1 n.vars u undefined low high;
-        constraints = each_unmapped P (λ l. l ∷ []) n.constraints (each_right P (gates_part n ++ undefined_part n) (constraints_part n) h.1);
+        constraints = each_unmapped P (λ l. l ∷ []) n.constraints
+            (each_right P (gates_part n ++ undefined_part n) (constraints_part n) h.1);
       }
 
   pub from_parts : Parts P n → AllByRecursion P (coded_clauses n)
   unfolding gates_part undefined_part constraints_part
   from_parts h =
-      let gates = each_flattened P gate_clauses n.gates (each_from_places (λ g. AllByRecursion P (gate_clauses g)) n.gates h.gates) in
-      let undefined = each_flattened P (undefined_clauses n) (range_with_len 1 n.vars) (each_of_range (λ u. AllByRecursion P (undefined_clauses n u)) 1 n.vars h.undefined) in
-      (h.constant, each_joined P (gates_part n ++ undefined_part n) (constraints_part n) (each_joined P (gates_part n) (undefined_part n) gates undefined) (each_mapped P (λ l. l ∷ []) n.constraints h.constraints))
+      let gates = each_flattened P gate_clauses n.gates
+      (each_from_places (λ g. AllByRecursion P (gate_clauses g)) n.gates h.gates) in
+      let undefined = each_flattened P (undefined_clauses n) (range_with_len 1 n.vars)
+      (each_of_range (λ u. AllByRecursion P (undefined_clauses n u)) 1 n.vars h.undefined) in (
+        h.constant,
+        each_joined P (gates_part n ++ undefined_part n) (constraints_part n)
+            (each_joined P (gates_part n) (undefined_part n) gates undefined)
+            (each_mapped P (λ l. l ∷ []) n.constraints h.constraints),
+      )
 
 -- ---- one variable that nothing defines
 
 undefined_is_0 : (n : Netlist) (row : List Bool) (u : ℕ) (b : Bool) → b ≡ is_defined (circuit n) u → b ≡ false
     → AllByRecursion (SatisfiedBy (value row)) (cond b [] ((literal_of u true ∷ []) ∷ [])) → bit row u ≡ false
 undefined_is_0 n row u true e free h = absurd cc
-undefined_is_0 n row u false e free h = not_false (bit row u) (sym (value_negative row u) ∙ one_held (value row (literal_of u true)) h.0)
+undefined_is_0 n row u false e free h = not_false (bit row u) (sym (value_negative row u)
+    ∙ one_held (value row (literal_of u true)) h.0)
 
-is_0_undefined : (row : List Bool) (u : ℕ) (b : Bool) → (b ≡ false → bit row u ≡ false) → AllByRecursion (SatisfiedBy (value row)) (cond b [] ((literal_of u true ∷ []) ∷ []))
+is_0_undefined : (row : List Bool) (u : ℕ) (b : Bool) → (b ≡ false → bit row u ≡ false)
+    → AllByRecursion (SatisfiedBy (value row)) (cond b [] ((literal_of u true ∷ []) ∷ []))
 is_0_undefined row u true h = tt
-is_0_undefined row u false h = (held_one (value row (literal_of u true)) (value_negative row u ∙ false_not (bit row u) (h refl)), tt)
+is_0_undefined row u false h = (
+  held_one (value row (literal_of u true)) (value_negative row u
+      ∙ false_not (bit row u) (h refl)),
+  tt,
+)
 
 -- ---- the meaning
 
@@ -100,20 +114,24 @@ module _ (n : Netlist) (sound : IsSound n) (row : List Bool) (width : length row
           | inl within ↦ undefined_is_0 n row u (is_defined (circuit n) u) refl free (h.undefined u (omega arith) within)
           | inr past ↦ get_or_past row u false (omega arith)
         ]
-        | inr none ↦ let zero : u ≡ 0 = omega arith in ap (bit row) zero ∙ not_false (bit row 0) (one_held (not (bit row 0)) h.constant)
+        | inr none ↦ let zero : u ≡ 0 = omega arith in ap (bit row) zero
+            ∙ not_false (bit row 0) (one_held (not (bit row 0)) h.constant)
       ]
 
-  gates_are : Parts (SatisfiedBy (value row)) n → (u : ℕ) (rights : ℕ × ℕ) → finite_map.get (circuit n).gates u ≡ Some rights → bit row u ≡ (value row rights.0 && value row rights.1)
+  gates_are : Parts (SatisfiedBy (value row)) n → (u : ℕ) (rights : ℕ × ℕ) → finite_map.get (circuit n).gates u ≡ Some rights
+      → bit row u ≡ (value row rights.0 && value row rights.1)
   gates_are h u rights is =
       let e = entry_has_gate n u rights is in
       let here : bit row (gate_var e.gate) ≡ (value row e.gate.rhs0 && value row e.gate.rhs1)
-      = sym (value_even row e.gate.lhs (sound.gates e.place e.gate e.is).lhs.even) ∙ gate_holds row e.gate (h.gates e.place e.gate e.is) in
+      = sym (value_even row e.gate.lhs (sound.gates e.place e.gate e.is).lhs.even)
+      ∙ gate_holds row e.gate (h.gates e.place e.gate e.is) in
       ap (bit row) (sym e.var) ∙ here ∙ ap (λ (r : ℕ × ℕ). value row r.0 && value row r.1) e.rights_are
 
   constraints_hold : Parts (SatisfiedBy (value row)) n → MeetsConstraints (circuit n) row
   constraints_hold h = All-from_recursion (λ l. value row l ≡ true) n.constraints (each_one n.constraints h.constraints)
     where
-      each_one : (ls : List ℕ) → AllByRecursion (λ l. SatisfiedBy (value row) (l ∷ [])) ls → AllByRecursion (λ l. value row l ≡ true) ls
+      each_one : (ls : List ℕ) → AllByRecursion (λ l. SatisfiedBy (value row) (l ∷ [])) ls
+          → AllByRecursion (λ l. value row l ≡ true) ls
       each_one [] h = tt
       each_one (l ∷ ls) h = (one_held (value row l) h.0, each_one ls h.1)
 
@@ -139,12 +157,14 @@ module _ (n : Netlist) (sound : IsSound n) (row : List Bool) (width : length row
       All-from_recursion (SatisfiedBy (value row)) (coded_clauses n)
       (from_parts (SatisfiedBy (value row)) n (record {
         constant = held_one (not (bit row 0)) (false_not (bit row 0) v.constant);
-        gates = λ k g is. holds_gate row g (value_even row g.lhs (sound.gates k g is).lhs.even ∙ v.gates (gate_var g) (g.rhs0, g.rhs1) (gate_of_circuit n sound k g is));
+        gates = λ k g is. holds_gate row g (value_even row g.lhs (sound.gates k g is).lhs.even
+            ∙ v.gates (gate_var g) (g.rhs0, g.rhs1) (gate_of_circuit n sound k g is));
         undefined = λ u low high. is_0_undefined row u (is_defined (circuit n) u) (v.rest u);
         constraints = each_one n.constraints (recursion_from_All (λ l. value row l ≡ true) n.constraints step.3);
       }))
     where
-      each_one : (ls : List ℕ) → AllByRecursion (λ l. value row l ≡ true) ls → AllByRecursion (λ l. SatisfiedBy (value row) (l ∷ [])) ls
+      each_one : (ls : List ℕ) → AllByRecursion (λ l. value row l ≡ true) ls
+          → AllByRecursion (λ l. SatisfiedBy (value row) (l ∷ [])) ls
       each_one [] h = tt
       each_one (l ∷ ls) h = (held_one (value row l) h.0, each_one ls h.1)
 

@@ -10,10 +10,12 @@ use Rattle.ja_project.specs.CodedClauses.{coded_clauses, held_literals}
 -- a literal for each variable; at that of a latch, what the latch holds one step later
 pub record HasNexts (n : Netlist) (nexts : List ℕ) : Type 0 where
   pub width : length nexts ≡ n.vars + 1
-  pub each : (k : ℕ) (latch : Latch) → slice_get n.latches k ≡ Some latch → slice_get nexts (variable latch.lit) ≡ Some latch.next
+  pub each : (k : ℕ) (latch : Latch) → slice_get n.latches k ≡ Some latch
+      → slice_get nexts (variable latch.lit) ≡ Some latch.next
 
 -- the clauses, the held literals and the table of this task, which is well formed
-pub record IsCoding (t : VerificationTask) (clauses : List (List ℕ)) (held nexts : List ℕ) : Type 0 where
+pub record IsCoding (t : VerificationTask) (clauses : List (List ℕ))
+    (held nexts : List ℕ) : Type 0 where
   pub sound : IsSound t.design
   pub expected : length t.expected ≡ length t.design.bads
   pub clauses_are : clauses ≡ coded_clauses t.design

@@ -45,7 +45,8 @@ fn add_undefined(
 ) -> Result<(), Memory>
     requires within { var < length defined.now }
     requires small { var < 2 ^ 31 }
-    ensures { OnOk result (clauses.new ≡ clauses.old ++ (if bit defined.now var then [] else (literal_of var true ∷ []) ∷ [])) }
+    ensures { OnOk result (clauses.new ≡ clauses.old
+        ++ (if bit defined.now var then [] else (literal_of var true ∷ []) ∷ [])) }
 {
     if !defined.get(var) {
         add_clause(alloc, clauses, &[Lit::new(Var(var), true)])?;
@@ -54,7 +55,8 @@ fn add_undefined(
 }
 
 fn add_all_undefined(alloc: Global, clauses: &mut ClauseList, design: &Design) -> Result<(), Memory>
-    ensures { OnOk result (clauses.new ≡ clauses.old ++ flat_map (undefined_clauses design.now) (range_with_len 1 design.now.vars)) }
+    ensures { OnOk result (clauses.new ≡ clauses.old
+        ++ flat_map (undefined_clauses design.now) (range_with_len 1 design.now.vars)) }
 {
     let defined = defined_vars(alloc, design)?;
     for var in 1..design.vars() + 1 {

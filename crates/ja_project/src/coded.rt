@@ -7,7 +7,8 @@ ghost use Rattle.ja_base.specs.Invariants.{latch_value};
 ghost use Rattle.ja_base.specs.Valuation.{IsBad, next_state};
 ghost use Rattle.aig_model.specs.declared.netlist.Latch as netlist;
 ghost use Rattle.aig_model.specs.Netlist.{IsSound, circuit};
-ghost use Rattle.ja_project.specs.CodedClauses.{IsOverLatch, coded_clauses, held_literals, next_literal, with_sign_of};
+ghost use Rattle.ja_project.specs.CodedClauses.{coded_clauses, held_literals, next_literal, with_sign_of};
+ghost use Rattle.ja_project.specs.Latches.{is_over_latch};
 ghost use Rattle.ja_project.specs.Meaning.{CodesSteps, CodesAssumptions};
 
 use crate::clauses::coded_clauses;
@@ -91,12 +92,14 @@ impl Coded {
 
     /// The literal whose value is that of the latch literal one step later.
     pub fn next(&self, lit: Lit) -> Lit
-        requires { IsOverLatch self.now.design lit }
-        ensures exact { (k : ℕ) (latch : netlist.Latch) → slice_get self.now.design.latches k ≡ Some latch
+        requires { is_over_latch (circuit self.now.design) lit ≡ true }
+        ensures exact { (k : ℕ) (latch : netlist.Latch)
+            → slice_get self.now.design.latches k ≡ Some latch
             → variable latch.lit ≡ variable lit → result ≡ with_sign_of lit latch.next }
         ensures value { result ≡ next_literal self.now.design.latches lit }
         ensures meaning { (row : List Bool) → value row result
-            ≡ latch_value (circuit self.now.design).latches (next_state (circuit self.now.design) row) lit }
+            ≡ latch_value (circuit self.now.design).latches
+            (next_state (circuit self.now.design) row) lit }
         ensures below { variable result < self.now.design.vars + 1 }
     {
         let next = self.nexts[lit.var().number() as usize];
@@ -107,7 +110,8 @@ impl Coded {
     pub fn bad(&self, prop: u32) -> Lit
         requires { prop < length self.now.design.bads }
         ensures exact { slice_get self.now.design.bads prop ≡ Some result }
-        ensures meaning { (row : List Bool) → (value row result ≡ true) ↔ IsBad (circuit self.now.design) prop row }
+        ensures meaning { (row : List Bool)
+            → (value row result ≡ true) ↔ IsBad (circuit self.now.design) prop row }
         ensures below { variable result < self.now.design.vars + 1 }
     {
         self.task.design().bad(prop)

@@ -22,7 +22,8 @@ fn mark_inputs(design: &Design, defined: &mut Row)
 
 fn mark_latches(design: &Design, defined: &mut Row)
     requires { length defined.old ≡ design.now.vars + 1 }
-    ensures { Marks (map (λ (k : netlist.Latch). variable k.lit) design.now.latches) defined.old defined.new }
+    ensures { Marks (map (λ (k : netlist.Latch). variable k.lit) design.now.latches) defined.old
+        defined.new }
 {
     for at in 0..design.latches() {
         defined.set(design.latch(at).lit.var().number(), true);
@@ -41,7 +42,8 @@ fn mark_gates(design: &Design, defined: &mut Row)
 /// One bit for each variable: whether something defines it.
 pub fn defined_vars(alloc: Global, design: &Design) -> Result<Row, Memory>
     ensures width { IfOk result (λ defined. length defined ≡ design.now.vars + 1) }
-    ensures marked { IfOk result (λ defined. (u : ℕ) → bit defined u ≡ is_defined (circuit design.now) u) }
+    ensures marked { IfOk result (λ defined. (u : ℕ)
+        → bit defined u ≡ is_defined (circuit design.now) u) }
 {
     let mut defined = Row::zeros(alloc, design.vars() + 1)?;
     mark_inputs(design, &mut defined);

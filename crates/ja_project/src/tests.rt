@@ -1,9 +1,11 @@
-ghost use Rattle.std.specs.Prelude.{◌≡◌, ◌^◌, ◌<◌, IfOk, length};
+ghost use Rattle.std.specs.Prelude.{◌≡◌, ◌^◌, ◌<◌, nat_lt, IfOk, length};
+ghost use Rattle.std.specs.List.{list_all};
+ghost use Rattle.ja_base.specs.Literals.{variable};
 ghost use Rattle.aig_model.specs.Refusals.{AreInRange};
 
-use crate::Coded;
+use crate::{Coded, ResetTable, negated_next};
 use aig_model::{AndGate, AndGates, Design, Expect, Latch, Latches, Parts, Reset, Task};
-use ja_base::{Items, Lit, Lits, Memory, OrMemory};
+use ja_base::{Clause, Items, Lit, Lits, Memory, OrMemory};
 use std::alloc::Global;
 use std::process::Abort;
 use std::test::Fail;
@@ -121,12 +123,73 @@ fn codes_a_task(rt: HostRuntime) -> Result<(), Fail> {
         let bad = coded.bad(prop);
         assert_eq!(rt; bads.get(prop as usize), Some(&bad));
     }
-    let nexts = [Lit(6), Lit(5)];
-    for at in 0..design.latches() {
-        let lit = design.latch(at).lit;
-        let next = coded.next(lit);
-        assert_eq!(rt; nexts.get(at as usize), Some(&next));
-        assert_eq!(rt; coded.next(lit.not()), next.not());
+    Ok(())
+}
+
+/// What the resets say of a clause: how it starts, and its negated literals one step later, or 0 where there are less than two.
+#[derive(Clone, Copy, Debug, PartialEq, Eq)]
+enum Seen {
+    Foreign,
+    Starts([Lit; 2]),
+    /// The row that falsifies it.
+    Falsified([Lit; 2], [bool; 2]),
+}
+
+use Seen::{Falsified, Foreign, Starts};
+
+fn is_below(lits: &[Lit]) -> bool
+    ensures { result ≡ list_all (λ l. nat_lt (variable l) 8) lits.now }
+{
+    lits.iter().all(|lit| lit.var().number() < 8)
+}
+
+fn first_two(lits: &[Lit]) -> [Lit; 2] {
+    let mut two = [Lit(0); 2];
+    for (place, lit) in two.iter_mut().zip(lits) {
+        *place = *lit;
+    }
+    two
+}
+
+fn look(rt: &impl Abort, alloc: Global, coded: &Coded, lits: [Lit; 2]) -> Result<Seen, Memory> {
+    let table = ResetTable::new(alloc, coded.task())?;
+    let clause = Clause::from_lits(alloc, &lits)?;
+    assert!(rt; coded.vars() == 8);
+    assert!(rt; is_below(clause.lits()));
+    if table.is_foreign(&clause) {
+        return Ok(Foreign);
+    }
+    let under = negated_next(alloc, coded, &clause)?;
+    let later = first_two(under.as_slice());
+    if table.starts(&clause) {
+        return Ok(Starts(later));
+    }
+    let row = table.falsifying(alloc, &clause)?;
+    assert!(rt; row.len() == 2);
+    Ok(Falsified(later, [row.get(0), row.get(1)]))
+}
+
+// The latch 4 starts at 1 and takes the bit of 6; the latch 6 is free at the start and takes the other bit of 4.
+const ROWS: [([u32; 2], Seen); 9] = [
+    ([4, 4], Starts([Lit(7), Lit(0)])),
+    ([5, 5], Falsified([Lit(6), Lit(0)], [true, true])),
+    ([6, 6], Falsified([Lit(4), Lit(0)], [true, false])),
+    ([7, 5], Falsified([Lit(6), Lit(5)], [true, true])),
+    ([6, 5], Falsified([Lit(6), Lit(4)], [true, false])),
+    ([4, 7], Starts([Lit(7), Lit(5)])),
+    ([2, 4], Foreign),
+    ([6, 7], Foreign),
+    ([0, 5], Foreign),
+];
+
+#[test]
+fn looks_at_clauses(rt: HostRuntime) -> Result<(), Fail> {
+    let alloc = rt.alloc();
+    let task = task_of(&rt, alloc)?.ok_or("the lists make no design")?;
+    let coded = Coded::new(alloc, &task)?;
+    for ([first, second], expected) in ROWS {
+        let found = look(&rt, alloc, &coded, [Lit(first), Lit(second)])?;
+        assert_eq!(rt; found, expected);
     }
     Ok(())
 }

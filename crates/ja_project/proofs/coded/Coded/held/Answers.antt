@@ -9,11 +9,13 @@ returns-clause-meaning c =
     let inside = c.self.inside in
     let P : List ℕ → Type 0 = λ held. CodesAssumptions c.args.self.now held in
     subst P (sym c.as_slice.ensures.value)
-    (held_mean c.args.self.now inside.clauses inside.held inside.nexts.items (seen_as inside.task c.args.self.now inside.clauses inside.held inside.nexts.items c.self.invariant c.self.view_is))
+    (held_mean c.args.self.now inside.clauses inside.held inside.nexts.items
+    (seen_as inside.task c.args.self.now inside.clauses inside.held inside.nexts.items c.self.invariant c.self.view_is))
 
 pub returns-clause-below : goal.returns-clause-below
 returns-clause-below c =
     let inside = c.self.inside in
     let P : List ℕ → Type 0 = λ held. IsBelow (c.args.self.now.design.vars + 1) held in
     subst P (sym c.as_slice.ensures.value)
-    (held_below c.args.self.now inside.clauses inside.held inside.nexts.items (seen_as inside.task c.args.self.now inside.clauses inside.held inside.nexts.items c.self.invariant c.self.view_is))
+    (held_below c.args.self.now inside.clauses inside.held inside.nexts.items
+    (seen_as inside.task c.args.self.now inside.clauses inside.held inside.nexts.items c.self.invariant c.self.view_is))
