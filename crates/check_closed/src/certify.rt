@@ -5,11 +5,12 @@ ghost use Rattle.ja_base.specs.Clauses.{IsBelow};
 ghost use Rattle.aig_model.specs.Task.{problem};
 
 use crate::candidates::candidates_of;
-use crate::proofs::{add_all, proof_of, proofs_of_lines, solved_proofs, solver_of};
+use crate::proofs::{proof_of, proofs_of_lines, solved_proofs, solver_of};
 use inv_cert::{Closed, NotClosed};
 use ja_base::{ClauseList, ClosedSet, Memory, OrMemory};
 use ja_project::Coded;
 use refute_check::Lines;
+use sat_plain::{PlainSat, Sat};
 use std::alloc::Global;
 
 /// What came of a list.
@@ -22,13 +23,32 @@ pub(crate) enum Certified {
     TooLarge,
 }
 
+/// The clauses of a list over the variables of its design.
+fn add_list(
+    alloc: Global,
+    coded: &Coded,
+    closed: &Closed,
+    solver: &mut PlainSat,
+) -> Result<(), Memory>
+    requires task { problem closed.now.task ≡ problem coded.now }
+    requires vars { solver.old.vars ≡ coded.now.design.vars + 1 }
+    ensures { solver.new.vars ≡ solver.old.vars }
+{
+    let _task = coded.task();
+    closed.is_closed();
+    for at in 0..closed.len() {
+        solver.add(alloc, closed.clause(at))?;
+    }
+    Ok(())
+}
+
 /// How many properties the list covers, by proofs of the solver.
 fn covered(alloc: Global, coded: &Coded, closed: &Closed) -> Result<u32, Memory>
     requires { problem closed.now.task ≡ problem coded.now }
 {
     let props = coded.task().design().props();
     let mut solver = solver_of(alloc, coded)?;
-    add_all(alloc, &mut solver, closed.clauses().as_slice())?;
+    add_list(alloc, coded, closed, &mut solver)?;
     let mut count = 0u32;
     for prop in 0..props {
         let proof = proof_of(alloc, &mut solver, &[coded.bad(prop)])?;

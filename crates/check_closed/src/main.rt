@@ -5,7 +5,6 @@
 
 mod candidates;
 mod certify;
-mod obligations;
 mod proofs;
 mod report;
 #[cfg(test)]

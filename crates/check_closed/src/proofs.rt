@@ -4,10 +4,9 @@ ghost use Rattle.std.specs.Prelude.{◌≡◌, ◌+◌, ◌<◌, All, IfOk};
 ghost use Rattle.ja_base.specs.Literals.{variable};
 ghost use Rattle.ja_base.specs.Clauses.{IsBelow};
 
-use crate::obligations::obligation_of;
 use ja_base::{Clause, ClauseList, Lit, Lits, Memory, Meter};
 use ja_outside::NoFlag;
-use ja_project::Coded;
+use ja_project::{Coded, ResetTable, negated_next};
 use refute_check::{Lines, Proofs, Refuted};
 use sat_plain::{PlainSat, Sat, SatAnswer};
 use std::alloc::Global;
@@ -89,6 +88,24 @@ pub(crate) fn solver_of(alloc: Global, coded: &Coded) -> Result<PlainSat, Memory
     Ok(solver)
 }
 
+/// What a proof of the clause refutes; nothing, where the clause is foreign, whatever its proof.
+fn under_of(
+    alloc: Global,
+    coded: &Coded,
+    table: &ResetTable,
+    clause: &Clause,
+) -> Result<Lits, Memory>
+    requires table { table.now ≡ coded.now.design }
+    requires below { IsBelow (coded.now.design.vars + 1) clause.now }
+    ensures { IfOk result (IsBelow (coded.now.design.vars + 1)) }
+{
+    if table.is_foreign(clause) {
+        return Ok(Lits::new(alloc));
+    }
+    let under = negated_next(alloc, coded, clause)?;
+    Ok(under)
+}
+
 /// A proof for each candidate, over the design, the assumptions and all candidates.
 pub(crate) fn solved_proofs(
     alloc: Global,
@@ -97,12 +114,13 @@ pub(crate) fn solved_proofs(
 ) -> Result<Proofs, Memory>
     requires { All (IsBelow (coded.now.design.vars + 1)) candidates.now }
 {
+    let table = ResetTable::new(alloc, coded.task())?;
     let mut solver = solver_of(alloc, coded)?;
     add_units(alloc, &mut solver, coded.held())?;
     add_all(alloc, &mut solver, candidates.as_slice())?;
     let mut proofs = Proofs::new(alloc);
     for clause in candidates.as_slice() {
-        let under = obligation_of(alloc, coded, clause)?;
+        let under = under_of(alloc, coded, &table, clause)?;
         proofs.push(proof_of(alloc, &mut solver, under.as_slice())?)?;
     }
     Ok(proofs)

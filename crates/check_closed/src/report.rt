@@ -18,8 +18,12 @@ fn put_refusal(text: &mut Text, refusal: NotClosed) -> Result<(), Memory> {
         NotClosed::Start(number) => put(text, b"start ", number),
         NotClosed::Missing(number) => put(text, b"missing ", number),
         NotClosed::Left(number) => put(text, b"left ", number),
-        NotClosed::Line(number, line, hint) => {
-            put(text, b"line ", number)?;
+        NotClosed::Line {
+            candidate,
+            line,
+            hint,
+        } => {
+            put(text, b"line ", candidate)?;
             put(text, b" ", line)?;
             put(text, b" ", hint)
         }

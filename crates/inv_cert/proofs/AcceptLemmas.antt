@@ -13,13 +13,14 @@ use Rattle.aig_model.specs.Task.{VerificationTask}
 use Rattle.refute_check.specs.Checked.{Checked}
 use Rattle.refute_check.specs.declared.lines.Refuted.{Refuted}
 use Rattle.inv_cert.specs.declared.not_closed.NotClosed.{NotClosed}
-use Rattle.inv_cert.specs.Obligations.{step_clauses}
-use Rattle.inv_cert.specs.Refusals.{candidate_refusal, AreAccepted, IsFirstRefusal}
+use Rattle.inv_cert.specs.Queries.{step_clauses}
+use Rattle.inv_cert.specs.Refusals.{candidate_refusal, AreTaken, IsFirstRefusal}
 use Rattle.inv_cert.specs.Taken.{IsLoaded, refusal_by}
 
 -- ---- the next of a list, and those behind it
 
-drop_first : {X : Type 0} (xs : List X) (n : ℕ) (x : X) (ys : List X) → drop n xs ≡ x ∷ ys → (slice_get xs n ≡ Some x) × (drop (n + 1) xs ≡ ys)
+drop_first : {X : Type 0} (xs : List X) (n : ℕ) (x : X) (ys : List X) → drop n xs ≡ x ∷ ys
+    → (slice_get xs n ≡ Some x) × (drop (n + 1) xs ≡ ys)
 drop_first {X} [] n x ys e = let none : drop n [] ≡ [] = drop-nil {A = X} n in absurd cc
 drop_first (z ∷ zs) zero x ys e = let same : z ≡ x = cc in (ap Some same, cc)
 drop_first {X} (z ∷ zs) (suc n) x ys e =
@@ -47,17 +48,19 @@ next_is xs n before after (Some x) e steps =
 
 -- ---- the refusal of a candidate
 
-pub refusal_at : (t : VerificationTask) (base candidates : List (List ℕ)) (proofs : List Refuted) (number : ℕ) (clause : List ℕ) (o : Option Refuted)
+pub refusal_at : (t : VerificationTask) (base candidates : List (List ℕ)) (proofs : List Refuted) (number : ℕ) (clause : List ℕ)
+    (o : Option Refuted)
     → slice_get proofs number ≡ o
     → candidate_refusal t base candidates proofs number clause ≡ refusal_by t (step_clauses t base candidates) number clause o
 refusal_at t base candidates proofs number clause None e = rw e refl
 refusal_at t base candidates proofs number clause (Some proof) e = rw e refl
 
 -- this many candidates are accepted, and these proofs are left
-pub record IsAccepting (t : VerificationTask) (base candidates : List (List ℕ)) (proofs : List Refuted) (number : ℕ) (left : List Refuted) (checker : Checked) : Type 0 where
+pub record IsAccepting (t : VerificationTask) (base candidates : List (List ℕ)) (proofs : List Refuted) (number : ℕ)
+    (left : List Refuted) (checker : Checked) : Type 0 where
   pub loaded : IsLoaded (t.design.vars + 1) (step_clauses t base candidates) checker
   pub left_are : left ≡ drop number proofs
-  pub accepted : AreAccepted t base candidates proofs number
+  pub accepted : AreTaken t base candidates proofs number
 
 module _ (t : VerificationTask) (base candidates : List (List ℕ)) (proofs : List Refuted) where
   pub IsAccepting-none : (checker : Checked) → IsLoaded (t.design.vars + 1) (step_clauses t base candidates) checker
@@ -65,14 +68,16 @@ module _ (t : VerificationTask) (base candidates : List (List ℕ)) (proofs : Li
   IsAccepting-none checker loaded = record { loaded = loaded; left_are = refl; accepted = λ k clause below. absurd (omega arith) }
 
   -- what the next candidate is told, with the next proof
-  refusal_of_next : (number : ℕ) (clause : List ℕ) (list : List (List ℕ)) (proof : Option Refuted) → list ≡ step_clauses t base candidates
+  refusal_of_next : (number : ℕ) (clause : List ℕ) (list : List (List ℕ)) (proof : Option Refuted)
+      → list ≡ step_clauses t base candidates
       → proof ≡ slice_get proofs number
       → candidate_refusal t base candidates proofs number clause ≡ refusal_by t list number clause proof
   refusal_of_next number clause list proof e next =
       refusal_at t base candidates proofs number clause proof (sym next)
       ∙ ap (λ (l : List (List ℕ)). refusal_by t l number clause proof) (sym e)
 
-  pub IsAccepting-more : (number : ℕ) (left later : List Refuted) (before after : Checked) (clause : List ℕ) (proof : Option Refuted)
+  pub IsAccepting-more : (number : ℕ) (left later : List Refuted) (before after : Checked) (clause : List ℕ)
+      (proof : Option Refuted)
       → IsAccepting t base candidates proofs number left before
       → slice_get candidates number ≡ Some clause
       → (proof ≡ slice_get proofs number) × (later ≡ drop (number + 1) proofs)
@@ -85,7 +90,8 @@ module _ (t : VerificationTask) (base candidates : List (List ℕ)) (proofs : Li
     accepted = λ k other below at. by_place k other at below (cases_order k number);
   }
     where
-      by_place : (k : ℕ) (other : List ℕ) → slice_get candidates k ≡ Some other → k < number + 1 → ((k ≡ number) ⊎ ((k < number) ⊎ (number < k)))
+      by_place : (k : ℕ) (other : List ℕ) → slice_get candidates k ≡ Some other → k < number + 1
+          → ((k ≡ number) ⊎ ((k < number) ⊎ (number < k)))
           → candidate_refusal t base candidates proofs k other ≡ None
       by_place k other at below (inl same) =
           let one : other ≡ clause = same_Some other clause (sym at ∙ ap (slice_get candidates) same ∙ is) in
@@ -104,9 +110,11 @@ module _ (t : VerificationTask) (base candidates : List (List ℕ)) (proofs : Li
       → IfRefused {T = Unit {0}} (Err error) (λ r. refusal_by t checker.list number clause proof ≡ Some r)
       → IfRefused answer (IsFirstRefusal t base candidates proofs)
   first_refusal number left checker clause proof h is next error answer e refused =
-      subst (λ (x : Result (Unit {0}) (OrMemory NotClosed)). IfRefused x (IsFirstRefusal t base candidates proofs)) (sym e) (by_case error refused)
+      subst (λ (x : Result (Unit {0}) (OrMemory NotClosed)). IfRefused x (IsFirstRefusal t base candidates proofs)) (sym e)
+      (by_case error refused)
     where
-      by_case : (error : OrMemory NotClosed) → IfRefused {T = Unit {0}} (Err error) (λ r. refusal_by t checker.list number clause proof ≡ Some r)
+      by_case : (error : OrMemory NotClosed)
+          → IfRefused {T = Unit {0}} (Err error) (λ r. refusal_by t checker.list number clause proof ≡ Some r)
           → IfRefused {T = Unit {0}} (Err error) (IsFirstRefusal t base candidates proofs)
       by_case (Refused r) refused = record {
         number = number;
@@ -117,6 +125,6 @@ module _ (t : VerificationTask) (base candidates : List (List ℕ)) (proofs : Li
       }
       by_case Memory refused = tt
 
-  pub AreAccepted-all : (number : ℕ) (left : List Refuted) (checker : Checked) → length candidates ≤ number
-      → IsAccepting t base candidates proofs number left checker → AreAccepted t base candidates proofs (length candidates)
-  AreAccepted-all number left checker end h = λ k clause below is. h.accepted k clause (omega arith) is
+  pub AreTaken-all : (number : ℕ) (left : List Refuted) (checker : Checked) → length candidates ≤ number
+      → IsAccepting t base candidates proofs number left checker → AreTaken t base candidates proofs (length candidates)
+  AreTaken-all number left checker end h = λ k clause below is. h.accepted k clause (omega arith) is

@@ -2,12 +2,13 @@
 use Rattle.std.proofs.Common.{ℕ, Bool, List, [], ◌∷◌, ◌++◌, get_or, sym, subst}
 use Rattle.std.specs.Prelude.{All, Contains}
 use Rattle.std.proofs.lemmas.Bool.{both_ways, false≢true}
-use Rattle.std.proofs.lemmas.List.Elements.{All-head, All-tail, All-append, All-contains, Contains-get_or, Contains-append_left, Contains-append_right}
+use Rattle.std.proofs.lemmas.List.Elements.{All-head, All-tail, All-append, All-contains}
 use Rattle.ja_base.specs.Literals.{value, SatisfiedBy}
 use Rattle.ja_base.specs.Circuit.{Circuit, Problem, bad_literal}
 use Rattle.ja_base.specs.Valuation.{IsValuation, latch_row, next_state, MeetsConstraints, AssumptionsHold}
 use Rattle.ja_base.specs.Runs.{Trace, IsRun, IsReachable, FailsLocally, BreaksAssumed}
 use Rattle.ja_base.specs.Invariants.{latch_value, MeetsClauses, IsInductive, Covers, CoversAll}
+use Rattle.ja_base.proofs.JoinLemmas.{first_is_part, second_is_part}
 
 -- what holds of each clause of a list holds of each clause of its parts
 pub All-part : {X : Type 0} (P : X → Type 0) (many few : List X) → All P many → All (Contains many) few → All P few
@@ -20,14 +21,9 @@ IsInductive-same c set a b part whole h = record {
   starts = λ state initial. All-part (SatisfiedBy (latch_value c.latches state)) a b (h.starts state initial) part;
   steps = λ state input values now meets constrained held.
       let old : MeetsClauses c state a = All-part (SatisfiedBy (latch_value c.latches state)) b a meets whole in
-      All-part (SatisfiedBy (latch_value c.latches (next_state c values))) a b (h.steps state input values now old constrained held) part;
+      All-part (SatisfiedBy (latch_value c.latches (next_state c values))) a b
+      (h.steps state input values now old constrained held) part;
 }
-
-pub first_is_part : {X : Type 0} (a b : List X) → All (Contains (a ++ b)) a
-first_is_part a b k d h = Contains-append_left a b (get_or a k d) (Contains-get_or a k d h)
-
-pub second_is_part : {X : Type 0} (a b : List X) → All (Contains (a ++ b)) b
-second_is_part a b k d h = Contains-append_right a b (get_or b k d) (Contains-get_or b k d h)
 
 pub IsInductive-append : (c : Circuit) (set : List Bool) (a b : List (List ℕ)) → IsInductive c set a → IsInductive c set b
     → IsInductive c set (a ++ b)
@@ -35,8 +31,10 @@ IsInductive-append c set a b g h = record {
   starts = λ state initial.
       All-append (SatisfiedBy (latch_value c.latches state)) a b (g.starts state initial) (h.starts state initial);
   steps = λ state input values now meets constrained held.
-      let of_a : MeetsClauses c state a = All-part (SatisfiedBy (latch_value c.latches state)) (a ++ b) a meets (first_is_part a b) in
-      let of_b : MeetsClauses c state b = All-part (SatisfiedBy (latch_value c.latches state)) (a ++ b) b meets (second_is_part a b) in
+      let of_a : MeetsClauses c state a = All-part (SatisfiedBy (latch_value c.latches state)) (a ++ b) a meets
+      (first_is_part a b) in
+      let of_b : MeetsClauses c state b = All-part (SatisfiedBy (latch_value c.latches state)) (a ++ b) b meets
+      (second_is_part a b) in
       All-append (SatisfiedBy (latch_value c.latches (next_state c values))) a b
       (g.steps state input values now of_a constrained held) (h.steps state input values now of_b constrained held);
 }
@@ -97,7 +95,8 @@ covered_never_fails t clauses p h covers failure =
     let legal = f.reached.legal in
     let step = step_meets t.circuit t.assumed clauses h f.earlier f.last [] m.first m.inputs legal.replay.runs
     (h.starts m.first legal.replay.starts) legal.constrained f.reached.held in
-    both_ways (value f.last (bad_literal t.circuit p)) (covers step.state step.input f.last step.now step.meets step.constrained) f.bad
+    both_ways (value f.last (bad_literal t.circuit p))
+    (covers step.state step.input f.last step.now step.meets step.constrained) f.bad
 
 nothing_assumed : (c : Circuit) (steps : List (List Bool)) → All (AssumptionsHold c []) steps
 nothing_assumed c steps k d _ p assumed = absurd (false≢true assumed)

@@ -1,23 +1,24 @@
 -- A set of clauses beside a list, one clause further.
-use Rattle.std.proofs.Common.{◌≡◌, ℕ, ◌+◌, ◌<◌, ◌||◌, Bool, true, false, not, cond, List, [], ◌∷◌, ◌++◌, length, get_or, take, refl, sym, ap, ◌∙◌, subst}
+use Rattle.std.proofs.Common.{◌≡◌, ℕ, ◌+◌, ◌<◌, ◌≤◌, ◌||◌, Bool, true, false, not, cond, List, [], ◌∷◌, ◌++◌, length, get_or, take, refl, sym, ap, ◌∙◌, subst}
 use Rattle.std.specs.Prelude.{bytes_eq}
 use Rattle.std.specs.Borrow.{Bor}
 use Rattle.std.specs.List.{list_any}
 use Rattle.std.specs.Ordering.{eq_by_cmp}
 use Rattle.std.proofs.lemmas.Bool.{not-true, not-false}
 use Rattle.std.specs.BTreeSet.{BTreeSet, Updates, IsEmpty, contains}
-use Rattle.std.proofs.lemmas.List.{take_more}
+use Rattle.std.proofs.lemmas.List.{take_more, take_all, append_cancel_left, append-nil}
 use Rattle.std.proofs.lemmas.List.Folds.{list_any-append}
 use Rattle.std.proofs.lemmas.Map.Text.{is_eq-slice_cmp}
 use Rattle.std.proofs.lemmas.Slice.Eq.{bytes_eq-Decides}
-use Rattle.ja_base.specs.ClauseSets.{has_clause, joined}
+use Rattle.ja_base.specs.ClauseSets.{has_clause, fresh, joined}
 use Rattle.inv_cert.specs.Known.{Knows, clause_cmp}
-use Rattle.inv_cert.proofs.JoinLemmas.{with_clause}
+use Rattle.ja_base.proofs.JoinLemmas.{with_clause, joined_is_fresh}
 
 pub Knows-none : (set : BTreeSet (Bor (List ℕ))) → IsEmpty set → Knows [] set
 Knows-none set empty clause = ap (list_any (λ k. eq_by_cmp clause_cmp clause k)) empty
 
-has_clause-push : (clauses : List (List ℕ)) (c q : List ℕ) → has_clause (clauses ++ c ∷ []) q ≡ cond (bytes_eq c q) true (has_clause clauses q)
+has_clause-push : (clauses : List (List ℕ)) (c q : List ℕ)
+    → has_clause (clauses ++ c ∷ []) q ≡ cond (bytes_eq c q) true (has_clause clauses q)
 has_clause-push clauses c q = list_any-append (λ k. bytes_eq k q) clauses (c ∷ []) ∙ by_test (has_clause clauses q) (bytes_eq c q)
   where
     by_test : (a b : Bool) → (a || (b || false)) ≡ cond b true a
@@ -73,7 +74,8 @@ Knows-more clauses at old new c clause r knows updates =
     subst (λ list. Knows list new) (sym (first_read clauses at c clause r)) (Knows-push (take at clauses) old new c knows updates)
 
 -- the first clauses of the second list are joined to the first, and the set has what came of it
-pub record IsJoinedTo (first second : List (List ℕ)) (at : ℕ) (both : List (List ℕ)) (set : BTreeSet (Bor (List ℕ))) : Type 0 where
+pub record IsJoinedTo (first second : List (List ℕ)) (at : ℕ) (both : List (List ℕ))
+    (set : BTreeSet (Bor (List ℕ))) : Type 0 where
   pub is : both ≡ joined first (take at second)
   pub known : Knows both set
 
@@ -100,3 +102,16 @@ module _ (first second : List (List ℕ)) (at : ℕ) (both : List (List ℕ)) (o
         is = sym (ap (λ b. cond b both (both ++ c.now ∷ [])) there) ∙ with_read;
         known = Knows-again both old new c h.known updates there;
       }
+
+pub IsJoinedTo-none : (first second added : List (List ℕ)) (set : BTreeSet (Bor (List ℕ))) → added ≡ [] → Knows first set
+    → IsJoinedTo first second 0 (first ++ added) set
+IsJoinedTo-none first second added set none knows =
+    let same : first ++ added ≡ first = ap (λ list. first ++ list) none ∙ append-nil first in
+    record { is = same; known = subst (λ list. Knows list set) (sym same) knows }
+
+-- the clauses that came to the first list are the fresh ones
+pub fresh_at_end : (first second added : List (List ℕ)) (at : ℕ) (set : BTreeSet (Bor (List ℕ))) → length second ≤ at
+    → IsJoinedTo first second at (first ++ added) set → added ≡ fresh first second
+fresh_at_end first second added at set end h =
+    append_cancel_left first added (fresh first second)
+    (h.is ∙ ap (joined first) (take_all at second end) ∙ joined_is_fresh first second)

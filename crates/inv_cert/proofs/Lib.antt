@@ -1,12 +1,9 @@
 pub mod InductionLemmas
-pub mod StartLemmas
 pub mod JoinLemmas
 pub mod KnownLemmas
-pub mod ResetLemmas
-pub mod ForeignLemmas
 pub mod ProofLemmas
 pub mod LoadLemmas
 pub mod AcceptLemmas
-pub mod ValueLemmas
-pub mod ObligationLemmas
+pub mod MeaningLemmas
 pub mod ClosedLemmas
+pub mod TakenLemmas

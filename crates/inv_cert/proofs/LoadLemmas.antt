@@ -8,7 +8,8 @@ pub Loads-none : (before : Checked) → Loads before [] before
 Loads-none before = record { vars_are = refl; list = sym (append-nil before.list); kept = λ e. e }
 
 -- one more
-pub Loads-more : (before now after : Checked) (clauses : List (List ℕ)) (clause : List ℕ) → Loads before clauses now → IsAdded now clause after
+pub Loads-more : (before now after : Checked) (clauses : List (List ℕ)) (clause : List ℕ) → Loads before clauses now
+    → IsAdded now clause after
     → Loads before (clauses ++ clause ∷ []) after
 Loads-more before now after clauses clause h added = record {
   vars_are = added.vars ∙ h.vars_are;
@@ -16,16 +17,24 @@ Loads-more before now after clauses clause h added = record {
   kept = λ _. added.kept;
 }
 
-pub take_one : {X : Type 0} (xs : List X) (i : ℕ) (x : X) → i < length xs → x ≡ get_or xs i x → take i xs ++ x ∷ [] ≡ take (i + 1) xs
+pub take_one : {X : Type 0} (xs : List X) (i : ℕ) (x : X) → i < length xs → x ≡ get_or xs i x
+    → take i xs ++ x ∷ [] ≡ take (i + 1) xs
 take_one {X} xs i x less e =
     sym (ap (λ (k : ℕ). take k xs) (add-one i) ∙ take-suc xs i x less ∙ ap (λ (y : X). take i xs ++ y ∷ []) (sym e))
 
-pub IsLoaded-new : (vars : ℕ) (checker : Checked) → checker ≡ record { vars = vars; list = []; spare = 0; added = []; kept = 0 } → IsLoaded vars [] checker
+pub IsLoaded-new : (vars : ℕ) (checker : Checked) → checker ≡ record { vars = vars; list = []; spare = 0; added = []; kept = 0 }
+    → IsLoaded vars [] checker
 IsLoaded-new vars checker e =
-    record { vars_are = ap (λ (k : Checked). k.vars) e; list = ap (λ (k : Checked). k.list) e; kept = ap (λ (k : Checked). k.kept) e }
+    record {
+      vars_are = ap (λ (k : Checked). k.vars) e;
+      list = ap (λ (k : Checked). k.list) e;
+      kept = ap
+          (λ (k : Checked). k.kept) e;
+    }
 
 -- the clauses that came behind
-pub IsLoaded-more : (vars : ℕ) (clauses more : List (List ℕ)) (before after : Checked) → IsLoaded vars clauses before → Loads before more after
+pub IsLoaded-more : (vars : ℕ) (clauses more : List (List ℕ)) (before after : Checked) → IsLoaded vars clauses before
+    → Loads before more after
     → IsLoaded vars (clauses ++ more) after
 IsLoaded-more vars clauses more before after h loads =
     let list : after.list ≡ clauses ++ more = loads.list ∙ ap (λ (list : List (List ℕ)). list ++ more) h.list in

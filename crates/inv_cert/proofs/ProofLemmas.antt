@@ -9,7 +9,8 @@ use Rattle.inv_cert.specs.Refusals.{hint_or, refused_line}
 use Rattle.inv_cert.specs.Taken.{IsLoaded, HasTaken, line_refusal}
 
 -- so many lines are taken, and these are left
-pub record IsTaking (vars : ℕ) (clauses : List (List ℕ)) (lines : List Line) (at : ℕ) (left : List Line) (checker : Checked) : Type 0 where
+pub record IsTaking (vars : ℕ) (clauses : List (List ℕ)) (lines : List Line) (at : ℕ) (left : List Line)
+    (checker : Checked) : Type 0 where
   pub vars_are : checker.vars ≡ vars
   pub kept : checker.kept ≡ length clauses
   pub room : length left ≤ checker.spare
@@ -18,7 +19,8 @@ pub record IsTaking (vars : ℕ) (clauses : List (List ℕ)) (lines : List Line)
   pub list : with_lines checker.list left ≡ with_lines clauses lines
 
 module _ (vars : ℕ) (clauses : List (List ℕ)) (lines : List Line) where
-  pub IsTaking-none : (checker : Checked) → IsLoaded vars clauses checker → length lines ≤ checker.spare → IsTaking vars clauses lines 0 lines checker
+  pub IsTaking-none : (checker : Checked) → IsLoaded vars clauses checker → length lines ≤ checker.spare
+      → IsTaking vars clauses lines 0 lines checker
   IsTaking-none checker h room = record {
     vars_are = h.vars_are;
     kept = h.kept;
@@ -28,12 +30,15 @@ module _ (vars : ℕ) (clauses : List (List ℕ)) (lines : List Line) where
     list = ap (λ (list : List (List ℕ)). with_lines list lines) h.list;
   }
 
-  pub IsTaking-as : (at : ℕ) (left seen : List Line) (checker : Checked) → left ≡ seen → IsTaking vars clauses lines at left checker
+  pub IsTaking-as : (at : ℕ) (left seen : List Line) (checker : Checked) → left ≡ seen
+      → IsTaking vars clauses lines at left checker
       → IsTaking vars clauses lines at seen checker
-  IsTaking-as at left seen checker e h = let P : List Line → Type 0 = λ ls. IsTaking vars clauses lines at ls checker in subst P e h
+  IsTaking-as at left seen checker e h = let P : List Line
+      → Type 0 = λ ls. IsTaking vars clauses lines at ls checker in subst P e h
 
   -- an accepted line
-  pub IsTaking-more : (at : ℕ) (line : Line) (left : List Line) (checker : Checked) → IsTaking vars clauses lines at (line ∷ left) checker
+  pub IsTaking-more : (at : ℕ) (line : Line) (left : List Line) (checker : Checked)
+      → IsTaking vars clauses lines at (line ∷ left) checker
       → refusal checker.vars checker.list line.clause line.hints ≡ None
       → IsTaking vars clauses lines (at + 1) left (with_line checker line.clause)
   IsTaking-more at line left checker h accepted = record {
@@ -48,7 +53,8 @@ module _ (vars : ℕ) (clauses : List (List ℕ)) (lines : List Line) where
   }
 
   -- a line that is refused
-  pub refused_at : (number at hint : ℕ) (line : Line) (left : List Line) (checker : Checked) → IsTaking vars clauses lines at (line ∷ left) checker
+  pub refused_at : (number at hint : ℕ) (line : Line) (left : List Line) (checker : Checked)
+      → IsTaking vars clauses lines at (line ∷ left) checker
       → refusal checker.vars checker.list line.clause line.hints ≡ Some hint
       → line_refusal number (refused_line vars clauses 0 lines) ≡ Some (case.Line number at hint)
   refused_at number at hint line left checker h refused =
@@ -61,10 +67,12 @@ module _ (vars : ℕ) (clauses : List (List ℕ)) (lines : List Line) where
       → line_refusal number (refused_line vars clauses 0 lines) ≡ None
   none_refused number at checker h = ap (line_refusal number) h.same
 
-  pub HasTaken-all : (at : ℕ) (checker : Checked) → IsTaking vars clauses lines at [] checker → HasTaken vars clauses lines checker
+  pub HasTaken-all : (at : ℕ) (checker : Checked) → IsTaking vars clauses lines at [] checker
+      → HasTaken vars clauses lines checker
   HasTaken-all at checker h = record { vars_are = h.vars_are; list = sym (append-nil checker.list) ∙ h.list; kept = h.kept }
 
-pub is_accepted : (vars : ℕ) (list : List (List ℕ)) (clause hints : List ℕ) → true ≡ accepts_line vars list clause hints → refusal vars list clause hints ≡ None
+pub is_accepted : (vars : ℕ) (list : List (List ℕ)) (clause hints : List ℕ) → true ≡ accepts_line vars list clause hints
+    → refusal vars list clause hints ≡ None
 is_accepted vars list clause hints e = by_case (refusal vars list clause hints) e
   where
     by_case : (o : Option ℕ) → true ≡ is_none o → o ≡ None

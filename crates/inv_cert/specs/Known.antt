@@ -13,4 +13,5 @@ clause_cmp x y = slice_cmp nat_cmp x.now y.now
 
 -- the set has exactly the clauses of the list
 abbrev pub Knows : List (List ℕ) → BTreeSet (Bor (List ℕ)) → Type 0
-Knows clauses set = (clause : Bor (List ℕ)) → contains clause_cmp set clause ≡ has_clause clauses clause.now
+Knows clauses set = (clause : Bor (List ℕ))
+    → contains clause_cmp set clause ≡ has_clause clauses clause.now

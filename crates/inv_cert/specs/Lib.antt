@@ -1,7 +1,6 @@
 pub mod Closed
-pub mod Start
-pub mod Resets
-pub mod Obligations
+pub mod Queries
+pub mod Proofs
 pub mod Refusals
 pub mod Taken
 pub mod Known

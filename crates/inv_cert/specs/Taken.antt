@@ -8,9 +8,9 @@ use Rattle.refute_check.specs.declared.lines.Line.{Line}
 use Rattle.refute_check.specs.declared.lines.Refuted.{Refuted}
 use Rattle.inv_cert.specs.declared.not_closed.NotClosed.{NotClosed}
 use Rattle.inv_cert.specs.declared.not_closed.NotClosed.TheVariants as case
-use Rattle.inv_cert.specs.Closed.{is_foreign}
-use Rattle.inv_cert.specs.Start.{starts}
-use Rattle.inv_cert.specs.Obligations.{obligation}
+use Rattle.ja_project.specs.Latches.{is_foreign}
+use Rattle.ja_project.specs.Start.{starts}
+use Rattle.ja_project.specs.CodedClauses.{negated_next}
 use Rattle.inv_cert.specs.Refusals.{proof_refusal}
 
 -- the checker has these clauses alone
@@ -20,7 +20,8 @@ pub record IsLoaded (vars : ℕ) (clauses : List (List ℕ)) (checker : Checked)
   pub kept : checker.kept ≡ length clauses
 
 -- the checker has the clauses, and behind them those of the lines
-pub record HasTaken (vars : ℕ) (clauses : List (List ℕ)) (lines : List Line) (checker : Checked) : Type 0 where
+pub record HasTaken (vars : ℕ) (clauses : List (List ℕ)) (lines : List Line)
+    (checker : Checked) : Type 0 where
   pub vars_are : checker.vars ≡ vars
   pub list : checker.list ≡ with_lines clauses lines
   pub kept : checker.kept ≡ length clauses
@@ -37,11 +38,13 @@ line_refusal number None = None
 line_refusal number (Some refused) = Some (case.Line number refused.0 refused.1)
 
 -- what is wrong with the candidate, whose checker has these clauses and whose proof is this, if it has one
-abbrev pub refusal_by : VerificationTask → List (List ℕ) → ℕ → List ℕ → Option Refuted → Option NotClosed
+abbrev pub refusal_by : VerificationTask → List (List ℕ) → ℕ → List ℕ → Option Refuted
+    → Option NotClosed
 refusal_by t clauses number clause proof =
     if is_foreign (circuit t.design) clause then Some (case.Foreign number) else
     if not (starts (circuit t.design) clause) then Some (case.Start number) else by_proof proof
   where
     by_proof : Option Refuted → Option NotClosed
     by_proof None = Some (case.Missing number)
-    by_proof (Some proof) = proof_refusal number (t.design.vars + 1) clauses proof.lines (obligation t.design clause)
+    by_proof (Some proof) = proof_refusal number (t.design.vars + 1) clauses proof.lines
+        (negated_next t.design clause)

@@ -1,34 +1,20 @@
 //! The candidates, one after the other, each with its proof.
 
-ghost use Rattle.std.specs.Prelude.{◌≡◌, ◌+◌, All, IfOk, OnOk, None, Some, length, false};
+ghost use Rattle.std.specs.Prelude.{◌≡◌, ◌+◌, All, OnOk, None, Some, length, false};
 ghost use Rattle.ja_base.specs.Answers.{IfRefused};
 ghost use Rattle.ja_base.specs.Clauses.{IsBelow};
 ghost use Rattle.aig_model.specs.Netlist.{circuit};
-ghost use Rattle.inv_cert.specs.Closed.{is_foreign};
-ghost use Rattle.inv_cert.specs.Obligations.{obligation};
-ghost use Rattle.inv_cert.specs.Refusals.{AreAccepted, IsFirstRefusal};
+ghost use Rattle.ja_project.specs.Latches.{is_foreign};
+ghost use Rattle.inv_cert.specs.Refusals.{AreTaken, IsFirstRefusal};
 ghost use Rattle.inv_cert.specs.Taken.{IsLoaded, refusal_by};
 
 use crate::load::step_checker;
 use crate::not_closed::NotClosed;
 use crate::proof::take_proof;
-use crate::start::ResetTable;
-use ja_base::{Clause, ClauseList, Lits, Memory, OrMemory};
-use ja_project::Coded;
+use ja_base::{Clause, ClauseList, OrMemory};
+use ja_project::{Coded, ResetTable, negated_next};
 use refute_check::{Checker, Proofs, Refuted};
 use std::alloc::Global;
-
-/// That one step later each literal of the clause is 0.
-fn obligation(alloc: Global, coded: &Coded, clause: &Clause) -> Result<Lits, Memory>
-    requires { is_foreign (circuit coded.now.design) clause.now ≡ false }
-    ensures { IfOk result (λ under. under ≡ obligation coded.now.design clause.now) }
-{
-    let mut under = Lits::new(alloc);
-    for lit in clause.lits() {
-        under.push(coded.next(*lit).not())?;
-    }
-    Ok(under)
-}
 
 /// Accepts the candidate of this number, or tells what is wrong with it first. The checker is left as it was loaded.
 fn accept(
@@ -43,9 +29,12 @@ fn accept(
     requires table { table.now ≡ coded.now.design }
     requires loaded { IsLoaded (coded.now.design.vars + 1) checker.old.list checker.old }
     requires below { IsBelow (coded.now.design.vars + 1) clause.now }
-    ensures accepted { OnOk result (refusal_by coded.now checker.old.list number clause.now proof ≡ None) }
-    ensures loaded { OnOk result (IsLoaded (coded.now.design.vars + 1) checker.old.list checker.new) }
-    ensures refused { IfRefused result (λ r. refusal_by coded.now checker.old.list number clause.now proof ≡ Some r) }
+    ensures accepted { OnOk result
+        (refusal_by coded.now checker.old.list number clause.now proof ≡ None) }
+    ensures loaded { OnOk result
+        (IsLoaded (coded.now.design.vars + 1) checker.old.list checker.new) }
+    ensures refused { IfRefused result
+        (λ r. refusal_by coded.now checker.old.list number clause.now proof ≡ Some r) }
 {
     if table.is_foreign(clause) {
         return Err(OrMemory::Refused(NotClosed::Foreign(number)));
@@ -56,7 +45,7 @@ fn accept(
     let Some(proof) = proof else {
         return Err(OrMemory::Refused(NotClosed::Missing(number)));
     };
-    let under = obligation(alloc, coded, clause)?;
+    let under = negated_next(alloc, coded, clause)?;
     take_proof(checker, number, proof.lines, under.as_slice())
 }
 
@@ -70,7 +59,8 @@ pub(crate) fn accept_all(
 ) -> Result<(), OrMemory<NotClosed>>
     requires base { All (λ clause. is_foreign (circuit coded.now.design) clause ≡ false) base.now }
     requires candidates { All (IsBelow (coded.now.design.vars + 1)) candidates.now }
-    ensures accepted { OnOk result (AreAccepted coded.now base.now candidates.now proofs (length candidates.now)) }
+    ensures accepted { OnOk result
+        (AreTaken coded.now base.now candidates.now proofs (length candidates.now)) }
     ensures refused { IfRefused result (IsFirstRefusal coded.now base.now candidates.now proofs) }
 {
     let table = ResetTable::new(alloc, coded.task())?;

@@ -2,15 +2,13 @@
 
 ghost use Rattle.std.specs.Prelude.{◌≡◌, ◌+◌, ◌<◌, [], ◌∷◌, length, Some, None, All, IfOk, OnOk};
 ghost use Rattle.ja_base.specs.Answers.{IfRefused};
-ghost use Rattle.ja_base.specs.Circuit.{bad_literal};
 ghost use Rattle.ja_base.specs.Clauses.{IsBelow};
 ghost use Rattle.ja_base.specs.ClauseSets.{joined};
 ghost use Rattle.ja_base.specs.Invariants.{Covers};
 ghost use Rattle.aig_model.specs.Netlist.{circuit};
 ghost use Rattle.aig_model.specs.Task.{problem};
 ghost use Rattle.inv_cert.specs.Closed.{IsClosed};
-ghost use Rattle.inv_cert.specs.Obligations.{cover_clauses};
-ghost use Rattle.inv_cert.specs.Refusals.{AreAccepted, IsFirstRefusal, proof_refusal};
+ghost use Rattle.inv_cert.specs.Refusals.{AreTaken, IsFirstRefusal, cover_refusal};
 
 use crate::check::accept_all;
 use crate::join::joined;
@@ -64,9 +62,12 @@ impl Closed {
     ) -> Result<Closed, OrMemory<NotClosed>>
         requires task { problem base.now.task ≡ problem coded.now }
         requires below { All (IsBelow (coded.now.design.vars + 1)) candidates }
-        ensures closed { IfOk result (λ closed. closed ≡ record { task = coded.now; clauses = joined base.now.clauses candidates }) }
-        ensures accepted { OnOk result (AreAccepted coded.now base.now.clauses candidates proofs (length candidates)) }
-        ensures refused { IfRefused result (IsFirstRefusal coded.now base.now.clauses candidates proofs) }
+        ensures closed { IfOk result (λ closed. closed
+            ≡ record { task = coded.now; clauses = joined base.now.clauses candidates }) }
+        ensures accepted { OnOk result (AreTaken coded.now base.now.clauses candidates proofs
+            (length candidates)) }
+        ensures refused { IfRefused result
+            (IsFirstRefusal coded.now base.now.clauses candidates proofs) }
     {
         let task = coded.task().share()?;
         accept_all(alloc, coded, &base.clauses, &candidates, proofs)?;
@@ -86,20 +87,25 @@ impl Closed {
         requires task { problem self.now.task ≡ problem coded.now }
         requires within { prop < length coded.now.design.bads }
         ensures covered { OnOk result (Covers (circuit coded.now.design) self.now.clauses prop) }
-        ensures accepted { OnOk result (proof_refusal 0 (coded.now.design.vars + 1) (cover_clauses coded.now self.now.clauses)
-            proof.lines (bad_literal (circuit coded.now.design) prop ∷ []) ≡ None) }
-        ensures refused { IfRefused result (λ r. proof_refusal 0 (coded.now.design.vars + 1) (cover_clauses coded.now self.now.clauses)
-            proof.lines (bad_literal (circuit coded.now.design) prop ∷ []) ≡ Some r) }
+        ensures accepted { OnOk result
+            (cover_refusal coded.now self.now.clauses prop proof.lines ≡ None) }
+        ensures refused { IfRefused result
+            (λ r. cover_refusal coded.now self.now.clauses prop proof.lines ≡ Some r) }
     {
         let mut checker = cover_checker(alloc, coded, &self.clauses)?;
         take_proof(&mut checker, 0, proof.lines, &[coded.bad(prop)])
     }
 
-    /// The clauses, in order.
-    pub fn clauses(&self) -> &ClauseList
-        ensures list { result.now ≡ self.now.clauses }
+    pub fn task(&self) -> &Task
+        ensures { result.now ≡ self.now.task }
+    {
+        &self.task
+    }
+
+    /// Tells that the list is closed; the clauses are read by `ClosedSet`.
+    pub fn is_closed(&self)
         ensures closed { IsClosed (problem self.now.task) self.now.clauses }
     {
-        &self.clauses
+        let _ = self.clauses.len();
     }
 }

@@ -1,16 +1,16 @@
 //! Closed lists as their users see them.
 
-ghost use Rattle.std.specs.Prelude.{◌≡◌, ◌<◌, length, Some, slice_get, slice_index_or, IfOk};
+ghost use Rattle.std.specs.Prelude.{◌≡◌, ◌<◌, length, Some, slice_get, slice_index_or, IfOk, OnOk, OnErr};
 ghost use Rattle.std.proofs.lemmas.List.Elements.{All-contains};
 ghost use Rattle.ja_base.specs.Budget.{sufficient_budget};
-ghost use Rattle.ja_base.specs.ClauseSets.{AreDistinct, joined};
+ghost use Rattle.ja_base.specs.ClauseSets.{AreDistinct, fresh, joined};
 ghost use Rattle.ja_base.specs.Invariants.{Covers, latch_value};
 ghost use Rattle.ja_base.specs.Literals.{SatisfiedBy};
 ghost use Rattle.aig_model.specs.Task.{problem};
 
 use crate::closed::Closed;
-use crate::join::{copied, joined};
-use ja_base::{Clause, ClosedSet, Memory};
+use crate::join::{copied, fresh, joined};
+use ja_base::{Clause, ClauseList, ClosedSet, Memory};
 use std::alloc::Global;
 
 impl ClosedSet for Closed {
@@ -37,6 +37,13 @@ impl ClosedSet for Closed {
         })
     }
 
+    fn extend(&mut self, alloc: Global, other: &Self) -> Result<ClauseList, Memory> {
+        let added = fresh(alloc, &self.clauses, &other.clauses)?;
+        let copy = copied(alloc, &added)?;
+        self.clauses.append(copy)?;
+        Ok(added)
+    }
+
     fn copy(&self, alloc: Global) -> Result<Self, Memory> {
         Ok(Closed {
             task: self.task.share()?,
@@ -46,6 +53,7 @@ impl ClosedSet for Closed {
 
     ghost grows = { λ t few many p covered part state input values now meets constrained.
         covered state input values now
-        (λ k d within. All-contains (SatisfiedBy (latch_value t.circuit.latches state)) many (slice_index_or few k d) meets (part k d within))
+        (λ k d within. All-contains (SatisfiedBy (latch_value t.circuit.latches state)) many
+        (slice_index_or few k d) meets (part k d within))
         constrained };
 }

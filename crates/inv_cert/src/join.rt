@@ -1,7 +1,7 @@
 //! Two lists become one.
 
 ghost use Rattle.std.specs.Prelude.{◌≡◌, IfOk};
-ghost use Rattle.ja_base.specs.ClauseSets.{joined};
+ghost use Rattle.ja_base.specs.ClauseSets.{fresh, joined};
 ghost use Rattle.inv_cert.specs.Known.{Knows};
 
 use ja_base::{ClauseList, Lit, Memory};
@@ -9,21 +9,35 @@ use std::alloc::Global;
 use std::collections::BTreeSet;
 
 /// The first list, and behind it the clauses of the second that it does not have, each once.
-pub(crate) fn joined<'a>(
+pub(crate) fn joined(
     alloc: Global,
-    first: &'a ClauseList,
-    second: &'a ClauseList,
+    first: &ClauseList,
+    second: &ClauseList,
 ) -> Result<ClauseList, Memory>
     ensures { IfOk result (λ both. both ≡ joined first.now second.now) }
 {
     let mut both = copied(alloc, first)?;
+    let added = fresh(alloc, first, second)?;
+    both.append(added)?;
+    Ok(both)
+}
+
+/// The clauses of the second list that the first does not have, each once.
+pub(crate) fn fresh<'a>(
+    alloc: Global,
+    first: &'a ClauseList,
+    second: &'a ClauseList,
+) -> Result<ClauseList, Memory>
+    ensures { IfOk result (λ added. added ≡ fresh first.now second.now) }
+{
     let mut known = known(alloc, first)?;
+    let mut added = ClauseList::new(alloc);
     for clause in second.as_slice() {
         if known.insert(clause.lits())? {
-            both.push(clause.copy(alloc)?)?;
+            added.push(clause.copy(alloc)?)?;
         }
     }
-    Ok(both)
+    Ok(added)
 }
 
 pub(crate) fn copied(alloc: Global, clauses: &ClauseList) -> Result<ClauseList, Memory>

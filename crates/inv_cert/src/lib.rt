@@ -1,5 +1,6 @@
-//! Closed lists: clauses over latches that are inductive under what their task assumes. What that is stands in `specs/Closed`
-//! and `specs/Start`, what a proof has to show in `specs/Obligations`, and which refusal comes first in `specs/Refusals`.
+//! Closed lists: clauses over latches that are inductive under what their task assumes. What that is stands in `specs/Closed`,
+//! over which clauses a proof is checked in `specs/Queries`, which refusal comes first in `specs/Refusals`, and which proofs are
+//! taken in `specs/Proofs`.
 #![tactic(auto)]
 
 mod check;
@@ -12,13 +13,12 @@ mod laws;
 mod load;
 mod not_closed;
 mod proof;
-mod start;
 #[cfg(test)]
 mod tests;
 
 pub use closed::Closed;
 pub use laws::{
     assumptions_discharge, covered_never_breaks, covered_never_fails, join_is_inductive,
-    reachable_states_meet, starts_exactly,
+    open_is_not_inductive, proofs_are_taken, reachable_states_meet,
 };
 pub use not_closed::NotClosed;

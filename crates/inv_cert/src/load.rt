@@ -5,8 +5,8 @@ ghost use Rattle.ja_base.specs.Literals.{variable};
 ghost use Rattle.ja_base.specs.Clauses.{IsBelow};
 ghost use Rattle.aig_model.specs.Netlist.{IsSound, circuit};
 ghost use Rattle.refute_check.specs.Checked.{IsAdded};
-ghost use Rattle.inv_cert.specs.Closed.{is_foreign};
-ghost use Rattle.inv_cert.specs.Obligations.{cover_clauses, step_clauses};
+ghost use Rattle.ja_project.specs.Latches.{is_foreign};
+ghost use Rattle.inv_cert.specs.Queries.{cover_clauses, step_clauses};
 ghost use Rattle.inv_cert.specs.Taken.{IsLoaded, Loads};
 
 use ja_base::{Clause, ClauseList, Lit, Memory};
@@ -53,7 +53,8 @@ pub(crate) fn step_checker(
 ) -> Result<Checker, Memory>
     requires base { All (λ clause. is_foreign (circuit coded.now.design) clause ≡ false) base.now }
     requires candidates { All (IsBelow (coded.now.design.vars + 1)) candidates.now }
-    ensures { IfOk result (IsLoaded (coded.now.design.vars + 1) (step_clauses coded.now base.now candidates.now)) }
+    ensures { IfOk result
+        (IsLoaded (coded.now.design.vars + 1) (step_clauses coded.now base.now candidates.now)) }
 {
     let mut checker = Checker::new(alloc, coded.vars())?;
     add_all(alloc, &mut checker, coded.clauses().as_slice())?;
@@ -70,7 +71,8 @@ pub(crate) fn cover_checker(
     clauses: &ClauseList,
 ) -> Result<Checker, Memory>
     requires { All (λ clause. is_foreign (circuit coded.now.design) clause ≡ false) clauses.now }
-    ensures loaded { IfOk result (IsLoaded (coded.now.design.vars + 1) (cover_clauses coded.now clauses.now)) }
+    ensures loaded { IfOk result
+        (IsLoaded (coded.now.design.vars + 1) (cover_clauses coded.now clauses.now)) }
     ensures sound { IsSound coded.now.design }
 {
     let mut checker = Checker::new(alloc, coded.vars())?;

@@ -10,7 +10,11 @@ pub enum NotClosed {
     /// The candidate has no proof.
     Missing(u32),
     /// This line of the candidate's proof, counted from 0, is refused at this hint.
-    Line(u32, u32, u32),
+    Line {
+        candidate: u32,
+        line: u32,
+        hint: u32,
+    },
     /// The lines are accepted, and something is left to refute.
     Left(u32),
 }

@@ -18,14 +18,23 @@ fn take_lines(
     requires room { length lines.items ≤ checker.old.spare }
     requires short { length lines.items < 2 ^ 32 }
     requires loaded { IsLoaded checker.old.vars checker.old.list checker.old }
-    ensures accepted { OnOk result (line_refusal number (refused_line checker.old.vars checker.old.list 0 lines.items) ≡ None) }
-    ensures taken { OnOk result (HasTaken checker.old.vars checker.old.list lines.items checker.new) }
-    ensures refused { IfRefused result (λ r. line_refusal number (refused_line checker.old.vars checker.old.list 0 lines.items) ≡ Some r) }
+    ensures accepted { OnOk result
+        (line_refusal number (refused_line checker.old.vars checker.old.list 0 lines.items)
+        ≡ None) }
+    ensures taken { OnOk result
+        (HasTaken checker.old.vars checker.old.list lines.items checker.new) }
+    ensures refused { IfRefused result
+        (λ r. line_refusal number (refused_line checker.old.vars checker.old.list 0 lines.items)
+        ≡ Some r) }
 {
     let mut at = 0u32;
     for line in lines {
         if let Err(refused) = checker.line(line) {
-            return Err(OrMemory::Refused(NotClosed::Line(number, at, refused.hint)));
+            return Err(OrMemory::Refused(NotClosed::Line {
+                candidate: number,
+                line: at,
+                hint: refused.hint,
+            }));
         }
         at += 1;
     }
@@ -40,15 +49,17 @@ pub(crate) fn take_proof(
     under: &[Lit],
 ) -> Result<(), OrMemory<NotClosed>>
     requires { IsLoaded checker.old.vars checker.old.list checker.old }
-    ensures accepted { OnOk result (proof_refusal number checker.old.vars checker.old.list lines under.now ≡ None) }
+    ensures accepted { OnOk result
+        (proof_refusal number checker.old.vars checker.old.list lines under.now ≡ None) }
     ensures loaded { OnOk result (IsLoaded checker.old.vars checker.old.list checker.new) }
-    ensures refused { IfRefused result (λ r. proof_refusal number checker.old.vars checker.old.list lines under.now ≡ Some r) }
+    ensures refused { IfRefused result
+        (λ r. proof_refusal number checker.old.vars checker.old.list lines under.now ≡ Some r) }
 {
     checker.reserve(lines.len())?;
     take_lines(checker, number, lines.into_vec())?;
     if !checker.covers(under) {
         return Err(OrMemory::Refused(NotClosed::Left(number)));
     }
-    checker.keep();
+    checker.forget_lines();
     Ok(())
 }

@@ -1,6 +1,6 @@
-//! A ring of three latches a, b, c with the numbers 2, 4, 6, of which one is 1, and a first. The property 0 is broken where a and
-//! b are 1, 1 where b and c are, 2 where a and c are. A checker has the coded clauses at 0 to 9: 1 to 3 for the gate 8 of a and b,
-//! 4 to 6 for the gate 10 of b and c, 7 to 9 for the gate 12 of a and c; the three assumptions at 10 to 12; then the lists.
+//! A ring of three latches a, b, c with the numbers 2, 4, 6, of which one is 1, and a first. The property 0 is broken where a
+//! and b are 1, 1 where b and c are, 2 where a and c are. A checker has the coded clauses at 0 to 9: 1 to 3 for the gate 8 of a
+//! and b, 4 to 6 for the gate 10 of b and c, 7 to 9 for the gate 12 of a and c; the three assumptions at 10 to 12; then the lists.
 
 ghost use Rattle.std.specs.Prelude.{◌≡◌, ◌+◌, nat_lt, All, IfOk};
 ghost use Rattle.std.specs.List.{list_all};
@@ -11,7 +11,7 @@ ghost use Rattle.aig_model.specs.Task.{problem};
 
 use crate::{Closed, NotClosed};
 use aig_model::{AndGate, AndGates, Design, Expect, Latch, Latches, Parts, Reset, Task};
-use ja_base::{Clause, ClauseList, Lit, Lits, Memory, OrMemory};
+use ja_base::{Clause, ClauseList, ClosedSet, Lit, Lits, Memory, OrMemory};
 use ja_project::Coded;
 use refute_check::{Hints, Line, Lines, Proofs, Refuted};
 use std::alloc::Global;
@@ -205,16 +205,44 @@ fn covers(
     }
 }
 
-/// The clauses of a list, if it has at most two.
-fn numbers(list: &ClauseList) -> [Numbers; 2] {
-    let mut numbers = [NO, NO];
-    for (row, clause) in numbers.iter_mut().zip(list.as_slice()) {
-        for (number, lit) in row.iter_mut().zip(clause.lits()) {
-            *number = lit.number();
-        }
+fn clause_numbers(clause: &Clause) -> Numbers {
+    let mut numbers = NO;
+    for (number, lit) in numbers.iter_mut().zip(clause.lits()) {
+        *number = lit.number();
     }
     numbers
 }
+
+/// The clauses of a list, if it has at most two.
+fn numbers(list: &Closed) -> [Numbers; 2] {
+    match list.len() {
+        0 => [NO, NO],
+        1 => [clause_numbers(list.clause(0)), NO],
+        _ => [
+            clause_numbers(list.clause(0)),
+            clause_numbers(list.clause(1)),
+        ],
+    }
+}
+
+// Of an unfinished proof the line is refused where its hints end.
+const AT_FIRST: NotClosed = NotClosed::Line {
+    candidate: 0,
+    line: 0,
+    hint: 1,
+};
+
+const AT_SECOND: NotClosed = NotClosed::Line {
+    candidate: 1,
+    line: 1,
+    hint: 1,
+};
+
+const AT_PROPERTY: NotClosed = NotClosed::Line {
+    candidate: 0,
+    line: 0,
+    hint: 2,
+};
 
 /// Candidates with their proofs, and what is answered.
 type Row = ([Numbers; 2], [Given; 2], Result<[Numbers; 2], NotClosed>);
@@ -240,16 +268,8 @@ const ROWS: [Row; 15] = [
         Err(NotClosed::Start(0)),
     ),
     ([AB, [3, 6]], [Holds, Missing], Err(NotClosed::Start(1))),
-    (
-        [AB, NO],
-        [Unfinished, Missing],
-        Err(NotClosed::Line(0, 0, 1)),
-    ),
-    (
-        [AB, BC],
-        [Holds, SecondUnfinished],
-        Err(NotClosed::Line(1, 1, 1)),
-    ),
+    ([AB, NO], [Unfinished, Missing], Err(AT_FIRST)),
+    ([AB, BC], [Holds, SecondUnfinished], Err(AT_SECOND)),
     ([AB, NO], [NoLine, Holds], Err(NotClosed::Left(0))),
     ([AB, AC], [Holds, NoLine], Err(NotClosed::Left(1))),
 ];
@@ -266,7 +286,7 @@ fn is_answered(
 {
     let (candidates, given, expected) = row;
     match check(rt, alloc, coded, base, candidates, given)? {
-        Ok(closed) => Ok(expected == Ok(numbers(closed.clauses()))),
+        Ok(closed) => Ok(expected == Ok(numbers(&closed))),
         Err(refusal) => Ok(expected == Err(refusal)),
     }
 }
@@ -297,7 +317,7 @@ fn goes_on_from_a_list(rt: HostRuntime) -> Result<(), Fail> {
         (0, Covers, Ok(())),
         (1, Covers, Err(NotClosed::Left(0))),
         (0, NoLine, Err(NotClosed::Left(0))),
-        (0, CoversUnfinished, Err(NotClosed::Line(0, 0, 2))),
+        (0, CoversUnfinished, Err(AT_PROPERTY)),
     ];
     for (prop, given, expected) in rows {
         assert_eq!(rt; covers(&rt, alloc, &coded, &base, prop, given)?, expected);
@@ -310,7 +330,7 @@ fn goes_on_from_a_list(rt: HostRuntime) -> Result<(), Fail> {
         let Ok(closed) = check(&rt, alloc, &coded, &base, candidates, given)? else {
             panic!(rt; "not closed");
         };
-        assert_eq!(rt; numbers(closed.clauses()), expected);
+        assert_eq!(rt; numbers(&closed), expected);
     }
     Ok(())
 }

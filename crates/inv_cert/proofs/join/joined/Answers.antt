@@ -1,26 +1,9 @@
-use Rattle.std.proofs.Common.{◌≡◌, ℕ, ◌+◌, List, [], ◌∷◌, ◌++◌, sym, ap, ◌∙◌, subst}
-use Rattle.inv_cert.proofs.KnownLemmas.{IsRead-same, IsJoinedTo, IsJoinedTo-new, IsJoinedTo-again}
+use Rattle.std.proofs.Common.{List, ℕ, ◌++◌, sym, ap, ◌∙◌}
+use Rattle.ja_base.proofs.JoinLemmas.{joined_is_fresh}
 use Rattle.inv_cert.proofs.join.joined.Goals as goal
-use Rattle.inv_cert.proofs.join.joined.Goals.{then-branch+in_ok-copy+in_ok-push, else-branch}
 
-pub loop-clause-preserved : goal.loop-clause-preserved
-loop-clause-preserved c =
+pub returns : goal.returns
+returns c =
     let first : List (List ℕ) = c.args.first.now in
-    let second : List (List ℕ) = c.args.second.now in
-    let at : ℕ = c.loop-clause.clause-index in
-    let both : List (List ℕ) = c.loop-clause.both in
-    let literals : List ℕ = c.clause-item.result in
-    let read = IsRead-same c.as_slice-clause-items.result.now second at c.lits.result literals
-    c.as_slice-clause-items.ensures.value c.loop-clause-test.true c.clause-item.is c.lits.ensures.value in
-    elim c.if-branch.branch [
-      | then-branch+in_ok-copy+in_ok-push w ↦
-          let pushed : both ++ c.lits.result.now ∷ [] ≡ c.if-branch.both =
-          ap (λ x. both ++ x ∷ []) (c.lits.ensures.value ∙ sym w.in_ok-copy.ensures) ∙ sym w.in_ok-push.ensures.ok ∙ sym w.both-is in
-          subst (λ list. IsJoinedTo first second (at + 1) list c.insert.new.self) pushed
-          (IsJoinedTo-new first second at both c.loop-clause.known c.insert.new.self c.lits.result literals read c.loop-clause.invariant
-          c.in_ok-insert.ensures.updates c.in_ok-insert.field-0 c.in_ok-insert.ensures.added w.if-branch.true)
-      | else-branch w ↦
-          subst (λ list. IsJoinedTo first second (at + 1) list c.insert.new.self) (sym w.both-is)
-          (IsJoinedTo-again first second at both c.loop-clause.known c.insert.new.self c.lits.result literals read c.loop-clause.invariant
-          c.in_ok-insert.ensures.updates c.in_ok-insert.field-0 c.in_ok-insert.ensures.added w.if-branch.false)
-    ]
+    c.in_ok-append.ensures.ok ∙ ap (λ list. list ++ c.in_ok-added.added) c.in_ok-both.ensures
+    ∙ ap (λ list. first ++ list) c.in_ok-added.ensures ∙ sym (joined_is_fresh first c.args.second.now)

@@ -1,6 +1,6 @@
 use Rattle.std.proofs.Common.{ap, ◌∙◌}
 use Rattle.refute_check.specs.Checked.{Checked}
-use Rattle.inv_cert.proofs.ForeignLemmas.{own_fit}
+use Rattle.ja_project.proofs.ForeignLemmas.{own_fit}
 use Rattle.inv_cert.proofs.load.cover_checker.Goals as goal
 
 pub add_all-requires-2 : goal.add_all-requires-2

@@ -14,22 +14,26 @@ loop-line-init c =
 pub line-requires : goal.line-requires
 line-requires c =
     let first = c.args.checker.now in
-    let h = IsTaking-as first.vars first.list c.args.lines.items c.loop-line.at c.loop-line.line-iterator.rest.items (c.in-Some.line ∷ c.next.new.self.rest.items)
+    let h = IsTaking-as first.vars first.list c.args.lines.items c.loop-line.at c.loop-line.line-iterator.rest.items
+    (c.in-Some.line ∷ c.next.new.self.rest.items)
     c.loop-line.checker c.in-Some.ensures.steps.0 c.loop-line.invariant in
     omega (arith, h.room)
 
 pub returns-in-Err-clause-refused : goal.returns-in-Err-clause-refused
 returns-in-Err-clause-refused c =
     let first = c.args.checker.now in
-    let h = IsTaking-as first.vars first.list c.args.lines.items c.loop-line.at c.loop-line.line-iterator.rest.items (c.in-Some.line ∷ c.next.new.self.rest.items)
+    let h = IsTaking-as first.vars first.list c.args.lines.items c.loop-line.at c.loop-line.line-iterator.rest.items
+    (c.in-Some.line ∷ c.next.new.self.rest.items)
     c.loop-line.checker c.in-Some.ensures.steps.0 c.loop-line.invariant in
-    refused_at first.vars first.list c.args.lines.items c.args.number c.loop-line.at c.in-Err.refused.hint c.in-Some.line c.next.new.self.rest.items c.loop-line.checker h
+    refused_at first.vars first.list c.args.lines.items c.args.number c.loop-line.at c.in-Err.refused.hint c.in-Some.line
+    c.next.new.self.rest.items c.loop-line.checker h
     c.in-Err.ensures.hint
 
 pub overflow_add-at : goal.overflow_add-at
 overflow_add-at c =
     let first = c.args.checker.now in
-    let h = IsTaking-as first.vars first.list c.args.lines.items c.loop-line.at c.loop-line.line-iterator.rest.items (c.in-Some.line ∷ c.next.new.self.rest.items)
+    let h = IsTaking-as first.vars first.list c.args.lines.items c.loop-line.at c.loop-line.line-iterator.rest.items
+    (c.in-Some.line ∷ c.next.new.self.rest.items)
     c.loop-line.checker c.in-Some.ensures.steps.0 c.loop-line.invariant in
     omega (arith, h.count, c.requires.short)
 
@@ -37,12 +41,14 @@ pub loop-line-preserved : goal.loop-line-preserved
 loop-line-preserved c =
     let first = c.args.checker.now in
     let left = c.next.new.self.rest.items in
-    let h = IsTaking-as first.vars first.list c.args.lines.items c.loop-line.at c.loop-line.line-iterator.rest.items (c.in-Some.line ∷ left)
+    let h = IsTaking-as first.vars first.list c.args.lines.items c.loop-line.at c.loop-line.line-iterator.rest.items
+    (c.in-Some.line ∷ left)
     c.loop-line.checker c.in-Some.ensures.steps.0 c.loop-line.invariant in
     let P : Checked → Type 0 = IsTaking first.vars first.list c.args.lines.items (c.loop-line.at + 1) left in
     subst P (sym c.in_default.ensures.ok)
     (IsTaking-more first.vars first.list c.args.lines.items c.loop-line.at c.in-Some.line left c.loop-line.checker h
-    (is_accepted c.loop-line.checker.vars c.loop-line.checker.list c.in-Some.line.clause c.in-Some.line.hints c.in_default.ensures.exact))
+    (is_accepted c.loop-line.checker.vars c.loop-line.checker.list c.in-Some.line.clause c.in-Some.line.hints
+    c.in_default.ensures.exact))
 
 pub returns-clause-accepted : goal.returns-clause-accepted
 returns-clause-accepted c =

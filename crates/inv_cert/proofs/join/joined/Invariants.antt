@@ -1,5 +1,0 @@
-use Rattle.inv_cert.proofs.KnownLemmas.{IsJoinedTo}
-use Rattle.inv_cert.proofs.join.joined.Given as goal
-
-abbrev pub invariant-loop-clause : goal.invariant-loop-clause
-invariant-loop-clause l = IsJoinedTo l.fn.first l.fn.second l.clause-index l.both l.known
