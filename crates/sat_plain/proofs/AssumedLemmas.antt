@@ -6,7 +6,8 @@ use Rattle.std.proofs.lemmas.List.{length-set}
 use Rattle.ja_base.specs.Literals.{bit, negated}
 use Rattle.ja_base.proofs.LiteralLemmas.{negated_twice}
 use Rattle.ja_base.proofs.ClauseLemmas.{Ascends, IsAbove}
-use Rattle.refute_check.specs.Lines.{open_lits, assumed}
+use Rattle.ja_base.specs.Trails.{open_lits}
+use Rattle.refute_check.specs.Lines.{assumed}
 use Rattle.sat_plain.proofs.Members.{Contains-here, Contains-there, Contains-cases, Contains-none}
 use Rattle.sat_plain.proofs.TrailLemmas.{bit_set_same, bit_set_other, bit_within}
 

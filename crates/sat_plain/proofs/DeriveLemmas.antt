@@ -7,9 +7,9 @@ use Rattle.std.proofs.lemmas.List.Elements.{All-contains, Contains-push, Contain
 use Rattle.ja_base.specs.Literals.{bit, variable, negated}
 use Rattle.ja_base.specs.Clauses.{IsBelow}
 use Rattle.ja_base.proofs.LiteralLemmas.{negated_within, negated_twice}
-use Rattle.refute_check.specs.Lines.{outcome, judged, found_of, found_at, open_lits, assumed, unknown}
+use Rattle.ja_base.specs.Trails.{open_lits, AreFalse}
+use Rattle.refute_check.specs.Lines.{outcome, judged, found_of, found_at, assumed, unknown}
 use Rattle.refute_check.specs.declared.found.Found.TheVariants.{False}
-use Rattle.sat_plain.specs.Trails.{AreFalse}
 use Rattle.sat_plain.specs.Derive.{Derived, IsDerived}
 use Rattle.sat_plain.proofs.Members.{Contains-none, known_more, known_less, known_here, from_here, from_less}
 use Rattle.sat_plain.proofs.AssumedLemmas.{no_open, assumed_is_negated, negated_is_assumed, length_assumed, bit_unknown}

@@ -2,7 +2,7 @@
 use Rattle.std.proofs.Common.{◌≡◌, ℕ, ◌*◌, ◌<◌, Bool, true, false, not, cond, nat_lt, List, length, get_or, reverse, Some, None, inl, inr, refl, sym, subst, ◌∙◌, ap, arith}
 use Rattle.std.specs.List.{Contains, list_any, list_all}
 use Rattle.std.proofs.lemmas.Bool.Decides.{nat_tests, Decides-ltb, Decides-by_and, Decides-by_or}
-use Rattle.std.proofs.lemmas.Bool.{and_from, cases_order}
+use Rattle.std.proofs.lemmas.Bool.{and_from, cases_order, false_from_ne_true}
 use Rattle.std.proofs.lemmas.List.{length-replicate, get_or_default}
 use Rattle.std.proofs.lemmas.List.Elements.{All-contains, Contains-get_or}
 use Rattle.ja_base.specs.Literals.{bit, variable, negated}
@@ -11,11 +11,10 @@ use Rattle.ja_base.proofs.LiteralLemmas.{variable_negated, negated_twice}
 use Rattle.ja_base.proofs.ClauseLemmas.{has_literal_decides}
 use Rattle.refute_check.specs.Refuted.{has_both_signs}
 use Rattle.refute_check.specs.Lines.{outcome, assumed, unknown, refusal, is_fit}
-use Rattle.sat_plain.specs.Trails.{AreApart}
+use Rattle.ja_base.specs.Trails.{AreApart}
 use Rattle.sat_plain.specs.Derive.{Derived, IsReady, IsDerived, IsWalked}
 use Rattle.sat_plain.proofs.Members.{Contains-none}
 use Rattle.sat_plain.proofs.TrailLemmas.{bit_within}
-use Rattle.std.proofs.lemmas.Bool.{false_from_ne_true}
 use Rattle.sat_plain.proofs.AssumedLemmas.{assumed_is_negated, negated_is_assumed, length_assumed, bit_unknown}
 
 -- the two signs of a variable do not both stand on a trail

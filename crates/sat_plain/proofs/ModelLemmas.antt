@@ -8,9 +8,10 @@ use Rattle.std.proofs.lemmas.List.Recursion.{or_at}
 use Rattle.ja_base.specs.Literals.{bit, variable, negated, is_negated, value, SatisfiedBy}
 use Rattle.ja_base.specs.Clauses.{IsBelow}
 use Rattle.ja_base.proofs.LiteralLemmas.{variable_negated, negated_twice}
-use Rattle.refute_check.specs.Lines.{found_of, open_lits}
+use Rattle.ja_base.specs.Trails.{open_lits, IsTrail, IsFull}
+use Rattle.refute_check.specs.Lines.{found_of}
 use Rattle.refute_check.specs.declared.found.Found.TheVariants.{Other}
-use Rattle.sat_plain.specs.Trails.{IsTrail, IsFull, IsQuiet}
+use Rattle.sat_plain.specs.Trails.{IsQuiet}
 use Rattle.sat_plain.specs.Turns.{IsModel}
 use Rattle.sat_plain.proofs.PlaceLemmas.{found_other}
 use Rattle.sat_plain.proofs.FinishLemmas.{one_sign}

@@ -5,10 +5,11 @@ use Rattle.std.proofs.lemmas.Bool.{cases_lt}
 use Rattle.std.proofs.lemmas.List.{map_push, length-map, length-append, length-take, length_push, take-map, take-take, take-append-le, take_at, get_or_append_left, get_or_push, get_or-take}
 use Rattle.std.proofs.lemmas.Option.{get_or_from_slice_get, slice_get_within, slice_get-get_or, slice_get-map}
 use Rattle.ja_base.specs.Literals.{bit, negated}
-use Rattle.refute_check.specs.Lines.{found_of, open_lits}
+use Rattle.ja_base.specs.Trails.{open_lits, IsTrail, IsReason, IsForcedBy, AreFalse}
+use Rattle.refute_check.specs.Lines.{found_of}
 use Rattle.refute_check.specs.declared.found.Found.TheVariants.{False, Forces, Other}
 use Rattle.sat_plain.specs.declared.place.Place.{Place}
-use Rattle.sat_plain.specs.Trails.{IsTrail, IsReason, IsForcedBy, AreForced, AreFalse, IsGrown, lits_of}
+use Rattle.sat_plain.specs.Trails.{AreForced, IsGrown, lits_of}
 use Rattle.sat_plain.proofs.Members.{Contains-here, Contains-there, Contains-cases, Contains-none}
 
 -- ---- elements by their places

@@ -11,16 +11,12 @@ use Rattle.ja_base.proofs.LiteralLemmas.{literal_within, negated_within, variabl
 use Rattle.ja_base.proofs.ClauseLemmas.{Ascends-from_increasing}
 use Rattle.refute_check.specs.Lines.{outcome, judged, found_of, found_at, assumed}
 use Rattle.refute_check.specs.declared.found.Found.TheVariants.{Forces, Other}
-use Rattle.sat_plain.specs.Trails.{IsReason}
-use Rattle.sat_plain.specs.Derive.{Derived, IsKnown, IsReady, IsDerived, IsWalked}
+use Rattle.ja_base.specs.Trails.{IsReason}
+use Rattle.sat_plain.specs.Derive.{Derived, resolved_marks, IsKnown, IsReady, IsDerived, IsWalked}
 use Rattle.sat_plain.proofs.Members.{known_more, known_less, known_here, from_less, taken_at, dropped_at, taken_is_on}
 use Rattle.sat_plain.proofs.TrailLemmas.{bit_set_same, bit_set_other}
 use Rattle.std.proofs.lemmas.Bool.{false_from_ne_true}
 use Rattle.sat_plain.proofs.AssumedLemmas.{one_open, assumed_is_negated, stays_assumed, negated_is_assumed, length_assumed}
-
--- the marks after a place was resolved
-abbrev resolved_marks : List ℕ → ℕ → List Bool → List Bool
-resolved_marks clause l marks = set (set (assumed clause marks) l false) (negated l) false
 
 -- the walk at a place that is resolved
 record Resolving (vars : ℕ) (clauses : List (List ℕ)) (trail : List ℕ) (p l number : ℕ) (clause : List ℕ) (d : Derived) : Type 0 where

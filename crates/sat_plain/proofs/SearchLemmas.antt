@@ -1,5 +1,5 @@
 -- What a search keeps over a turn, and what it answers with.
-use Rattle.std.proofs.Common.{◌≡◌, ℕ, ◌+◌, ◌^◌, Bool, List, [], ◌++◌, length, take, Some, refl, sym, subst, ◌∙◌, ap, arith, append_assoc, append-nil}
+use Rattle.std.proofs.Common.{◌≡◌, ℕ, ◌+◌, ◌^◌, ◌≤◌, Bool, List, [], ◌++◌, length, take, Some, refl, sym, subst, ◌∙◌, ap, arith, append_assoc, append-nil}
 use Rattle.std.specs.List.{All, Contains}
 use Rattle.std.proofs.lemmas.List.{take_at}
 use Rattle.std.proofs.lemmas.List.Elements.{All-take, All-same}
@@ -13,13 +13,24 @@ use Rattle.refute_check.specs.declared.lines.Line.{Line}
 use Rattle.refute_check.specs.declared.lines.Refuted.{Refuted}
 use Rattle.sat_plain.specs.declared.place.Place.{Place}
 use Rattle.sat_plain.specs.Trails.{lits_of, kinds_of}
+use Rattle.sat_plain.specs.Rank.{rank}
 use Rattle.sat_plain.specs.Ticks.{TicksAtMost, SpendsAtLeast, IsGranted, IsRefused}
 use Rattle.sat_plain.specs.Payments.{Spends}
 use Rattle.sat_plain.specs.Turns.{IsLog, IsExtended, IsSearch, IsNext, IsCore, IsModel, IsFurther}
-use Rattle.sat_plain.specs.Outcomes.{SpendsFor, IsSearching, IsRefutation}
+use Rattle.sat_plain.specs.Outcomes.{SpendsFor, IsRefutation}
 use Rattle.sat_plain.proofs.Members.{taken_is_on}
 use Rattle.sat_plain.proofs.PlaceLemmas.{lits_take}
 use Rattle.sat_plain.proofs.RankLemmas.{rank_below}
+
+-- what the loop of the search keeps
+pub record IsSearching (vars assumed : ℕ) (places : List Place) (clauses : Numbering) (before : Meter)
+    (places' : List Place) (lines' : List Line) (clauses' : Numbering) (now : Meter) : Type 0 where
+  pub search : IsSearch vars assumed places' clauses'.list
+  pub base : take assumed places' ≡ take assumed places
+  pub log : IsLog vars clauses.list lines' clauses'.list
+  pub store : IsExtended clauses clauses'
+  pub few : length lines' ≤ rank vars (kinds_of places')
+  pub paid : Spends before now (length lines')
 
 -- ---- units
 

@@ -1,6 +1,7 @@
 -- One pass over all clauses.
 use Rattle.std.proofs.Common.{◌≡◌, ℕ, ◌<◌, ◌≤◌, List, [], length, get_or}
-use Rattle.refute_check.specs.Lines.{found_of, open_lits}
+use Rattle.ja_base.specs.Trails.{open_lits}
+use Rattle.refute_check.specs.Lines.{found_of}
 use Rattle.refute_check.specs.declared.found.Found.TheVariants.{Other}
 use Rattle.sat_plain.specs.Trails.{Assigned, AreForced, IsGrown}
 

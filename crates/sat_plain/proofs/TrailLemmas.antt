@@ -2,7 +2,7 @@
 use Rattle.std.proofs.Common.{◌≡◌, ℕ, ◌+◌, ◌*◌, ◌%◌, ◌<◌, ◌≤◌, ◌⊎◌, Bool, true, false, List, [], ◌∷◌, ◌++◌, length, get_or, set, map, take, eqb, Some, slice_get, zero, suc, inl, inr, refl, sym, subst, ◌∙◌, ap, arith}
 use Rattle.std.specs.List.{AllPairs, Contains, list_any}
 use Rattle.std.proofs.lemmas.Bool.Decides.{nat_tests, eqb_tells, Decides-eqb, Decides-by_or}
-use Rattle.std.proofs.lemmas.List.{get_or-set_same, get_or-set_other, length-set, length-append, length-map, get_or-map, get_or_append_left, get_or_push}
+use Rattle.std.proofs.lemmas.List.{get_or-set_same, get_or-set_other, length-set, length-append, length-map, get_or-map, get_or_append_left, get_or_push, length_push}
 use Rattle.std.proofs.lemmas.List.Elements.{All-push, All-contains, All-map, Contains-push, Contains-push_cases, Contains-append_left, Contains-get_or, Decides-contains}
 use Rattle.std.proofs.lemmas.List.Quantifiers.{all_pairs_push}
 use Rattle.std.proofs.lemmas.Map.Made.{IsDistinct-from_AllPairs}
@@ -10,7 +10,7 @@ use Rattle.std.proofs.lemmas.Map.Steps.{length-le_from_distinct_below}
 use Rattle.ja_base.specs.Literals.{bit, variable, negated}
 use Rattle.ja_base.specs.Clauses.{IsBelow}
 use Rattle.ja_base.proofs.LiteralLemmas.{literal_within}
-use Rattle.sat_plain.specs.Trails.{IsTrail, AreApart, IsFull}
+use Rattle.ja_base.specs.Trails.{IsTrail, AreApart, IsFull}
 use Rattle.std.proofs.lemmas.Bool.{cases_eq, false_from_ne_true}
 use Rattle.std.proofs.lemmas.Option.{get_or_from_slice_get, slice_get_within}
 use Rattle.sat_plain.proofs.Members.{taken_at}
@@ -135,6 +135,31 @@ popped vars l values lits h =
         h.apart k (length lits) m has.1 (omega arith)
         (ap variable (get_or_append_left lits (l ∷ []) m k has.1 ∙ has.2 ∙ same)
         ∙ sym (ap variable (get_or_push lits l m (length lits) refl)))
+
+bit_more : (xs : List Bool) (l : ℕ) → bit (xs ++ false ∷ []) l ≡ bit xs l
+bit_more [] zero = refl
+bit_more [] (suc l) = refl
+bit_more (b ∷ bs) zero = refl
+bit_more (b ∷ bs) (suc l) = bit_more bs l
+
+-- one more variable, which has no value
+pub widened : (vars : ℕ) (values : List Bool) (lits : List ℕ) → IsTrail vars values lits
+    → IsTrail (vars + 1) ((values ++ false ∷ []) ++ false ∷ []) lits
+widened vars values lits h =
+    let more : List Bool = values ++ false ∷ [] in
+    let one = length_push values false in
+    let two = length_push more false in
+    let wide = h.width in
+    let few = h.short in
+    let same : (l : ℕ) → bit (more ++ false ∷ []) l ≡ bit values l = λ l. bit_more more l ∙ bit_more values l in
+    record {
+      width = omega arith;
+      below = λ k d less. let b = h.below k d less in omega arith;
+      apart = h.apart;
+      short = omega arith;
+      on = λ l has. same l ∙ h.on l has;
+      only = λ l e. h.only l (sym (same l) ∙ e);
+    }
 
 -- each variable has a value where one of its two literals is true
 pub full_by_variables : (vars : ℕ) (values : List Bool)

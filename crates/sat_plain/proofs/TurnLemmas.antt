@@ -18,7 +18,8 @@ use Rattle.refute_check.specs.Refuted.{is_false_under, has_both_signs}
 use Rattle.refute_check.specs.declared.lines.Line.{Line}
 use Rattle.refute_check.proofs.ListLemmas.{accepted_below}
 use Rattle.sat_plain.specs.declared.place.Place.{Place}
-use Rattle.sat_plain.specs.Trails.{AreForced, IsForcedBy, IsReason, lits_of}
+use Rattle.ja_base.specs.Trails.{IsForcedBy, IsReason}
+use Rattle.sat_plain.specs.Trails.{AreForced, lits_of}
 use Rattle.sat_plain.specs.Walks.{IsCut, IsLast, IsChoice}
 use Rattle.sat_plain.specs.Turns.{IsLog, IsSearch, IsNext, IsCore}
 use Rattle.sat_plain.proofs.Members.{taken_at, Contains-none}

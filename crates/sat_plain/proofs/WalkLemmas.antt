@@ -9,7 +9,8 @@ use Rattle.ja_base.specs.Clauses.{IsSetOf, IsBelow}
 use Rattle.ja_base.proofs.LiteralLemmas.{negated_twice, literal_within, negated_within}
 use Rattle.refute_check.specs.Spans.{Spans}
 use Rattle.sat_plain.specs.declared.place.Place.{Place}
-use Rattle.sat_plain.specs.Trails.{IsTrail, lits_of}
+use Rattle.ja_base.specs.Trails.{IsTrail}
+use Rattle.sat_plain.specs.Trails.{lits_of}
 use Rattle.sat_plain.specs.Derive.{IsWalked}
 use Rattle.sat_plain.specs.Walks.{IsLast}
 use Rattle.sat_plain.proofs.Members.{Contains-here, Contains-cases, Contains-none}

@@ -1,8 +1,8 @@
 -- What a query of a solver answers.
-use Rattle.std.specs.Prelude.{◌≡◌, ℕ, true, List, [], ◌∷◌, ◌++◌, Option, Some, None, ⊤}
-use Rattle.ja_base.specs.Clauses.{IsBelow, is_part}
-use Rattle.refute_check.specs.Refuted.{Satisfies, is_covered}
-use Rattle.refute_check.specs.Laws.{AreAccepted, with_lines}
+use Rattle.std.specs.Prelude.{ℕ, List, [], ◌∷◌, ◌++◌, Option, Some, None, ⊤}
+use Rattle.ja_base.specs.Clauses.{IsBelow}
+use Rattle.refute_check.specs.Refuted.{Satisfies}
+use Rattle.refute_check.specs.Laws.{Refutes}
 use Rattle.refute_check.specs.declared.lines.Refuted.{Refuted}
 use Rattle.sat_plain.specs.declared.answer.SatAnswer.{SatAnswer}
 use Rattle.sat_plain.specs.declared.answer.SatAnswer.TheVariants.{Sat, Unsat, Spent, Stopped, Memory}
@@ -16,12 +16,6 @@ clauses_of added (Some clause) = added ++ clause ∷ []
 abbrev pub ExtraIsBelow : ℕ → Option (List ℕ) → Type 0
 ExtraIsBelow vars None = ⊤
 ExtraIsBelow vars (Some clause) = IsBelow vars clause
-
--- The core is a part of `under`; a checker that has the clauses accepts each line, one after another, and then covers the core.
-pub record Refutes (vars : ℕ) (clauses : List (List ℕ)) (under : List ℕ) (refuted : Refuted) : Type 0 where
-  pub part : is_part refuted.core under ≡ true
-  pub accepted : AreAccepted vars clauses refuted.lines
-  pub covered : is_covered (with_lines clauses refuted.lines) refuted.core ≡ true
 
 -- a row that meets all, or lines that show that none does; the other answers say nothing of the clauses
 abbrev pub IsAnswer : ℕ → List (List ℕ) → List ℕ → SatAnswer → Type 0

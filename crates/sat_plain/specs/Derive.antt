@@ -1,10 +1,10 @@
 -- How a line is derived from a conflict: by a walk down the trail that resolves some of its places, and keeps others.
-use Rattle.std.specs.Prelude.{◌≡◌, ℕ, ◌+◌, ◌*◌, ◌⊎◌, Bool, true, List, length, take, drop, reverse, slice_get, Some, None, Contains}
+use Rattle.std.specs.Prelude.{◌≡◌, ℕ, ◌+◌, ◌*◌, ◌⊎◌, Bool, true, false, List, length, take, drop, reverse, slice_get, slice_set, Some, None, Contains}
 use Rattle.ja_base.specs.Literals.{bit, negated}
 use Rattle.ja_base.specs.Clauses.{IsBelow}
-use Rattle.refute_check.specs.Lines.{outcome, refusal}
+use Rattle.refute_check.specs.Lines.{outcome, refusal, assumed}
 use Rattle.refute_check.specs.declared.lines.Line.{Line}
-use Rattle.sat_plain.specs.Trails.{AreApart, AreFalse, IsReason}
+use Rattle.ja_base.specs.Trails.{AreApart, AreFalse, IsReason}
 
 -- which literals are still to be explained, or were kept (one bit a literal), the literals of the clause so far, and the hints
 -- so far, the last first
@@ -12,6 +12,10 @@ pub record Derived : Type 0 where
   pub marks : List Bool
   pub lits : List ℕ
   pub hints : List ℕ
+
+-- the marks after l was resolved by a clause: the negations of the clause's literals came, and neither sign of l is marked
+abbrev pub resolved_marks : List ℕ → ℕ → List Bool → List Bool
+resolved_marks clause l marks = slice_set (slice_set (assumed clause marks) l false) (negated l) false
 
 -- l stands below place p, or it was kept
 abbrev pub IsKnown : List ℕ → ℕ → List ℕ → ℕ → Type 0

@@ -10,4 +10,4 @@ pub mod Payments
 pub mod Outcomes
 pub mod Starts
 pub mod Solvers
-pub mod Laws
+pub mod Probed

@@ -1,10 +1,8 @@
 -- What a turn of the search leaves, by its outcome.
-use Rattle.std.specs.Prelude.{◌≡◌, ℕ, ◌+◌, ◌≤◌, true, Some, List, length, take, All, Contains, ⊤}
+use Rattle.std.specs.Prelude.{◌≡◌, ℕ, ◌+◌, true, Some, List, length, take, All, Contains, ⊤}
 use Rattle.ja_base.specs.declared.meter.Meter.{Meter}
-use Rattle.refute_check.specs.Checked.{Numbering}
 use Rattle.refute_check.specs.Laws.{AreAccepted, with_lines}
 use Rattle.refute_check.specs.Refuted.{is_covered}
-use Rattle.refute_check.specs.declared.lines.Line.{Line}
 use Rattle.refute_check.specs.declared.lines.Refuted.{Refuted}
 use Rattle.sat_plain.specs.Answer.{OnUnsat}
 use Rattle.sat_plain.specs.declared.answer.SatAnswer.{SatAnswer}
@@ -12,11 +10,10 @@ use Rattle.sat_plain.specs.declared.answer.SatAnswer.TheVariants as answer
 use Rattle.sat_plain.specs.declared.place.Place.{Place}
 use Rattle.sat_plain.specs.declared.turn.Outcome.{Outcome}
 use Rattle.sat_plain.specs.declared.turn.Outcome.TheVariants.{GoesOn, Meets, Refutes, Spent, Stopped, Memory}
-use Rattle.sat_plain.specs.Trails.{lits_of, kinds_of}
-use Rattle.sat_plain.specs.Rank.{rank}
+use Rattle.sat_plain.specs.Trails.{lits_of}
 use Rattle.sat_plain.specs.Ticks.{IsRefused, IsTicked, SpendsAtLeast}
 use Rattle.sat_plain.specs.Payments.{Spends}
-use Rattle.sat_plain.specs.Turns.{IsLog, IsExtended, IsSearch, IsCore, IsModel, IsFurther}
+use Rattle.sat_plain.specs.Turns.{IsCore, IsModel, IsFurther}
 
 -- the search has come further, or a row meets all, or the lowest places are refuted
 abbrev pub IsTurned : ℕ → ℕ → List Place → List Place → List (List ℕ) → Outcome → Type 0
@@ -67,13 +64,3 @@ IsFound vars clauses lits answer.Memory = ⊤
 abbrev pub IsFoundTicked : Meter → Meter → SatAnswer → Type 0
 IsFoundTicked before now found = (start : Meter) → (start.limit ≡ Some start.spent → ⊥) → Spends start before 1
     → IsTicked start now found × OnUnsat found (λ refuted. SpendsAtLeast start now (1 + length refuted.lines))
-
--- what the search keeps
-pub record IsSearching (vars assumed : ℕ) (places : List Place) (clauses : Numbering) (before : Meter)
-    (places' : List Place) (lines' : List Line) (clauses' : Numbering) (now : Meter) : Type 0 where
-  pub search : IsSearch vars assumed places' clauses'.list
-  pub base : take assumed places' ≡ take assumed places
-  pub log : IsLog vars clauses.list lines' clauses'.list
-  pub store : IsExtended clauses clauses'
-  pub few : length lines' ≤ rank vars (kinds_of places')
-  pub paid : Spends before now (length lines')

@@ -2,8 +2,8 @@
 use Rattle.std.specs.Prelude.{◌≡◌, ℕ, ◌+◌, ◌≤◌, Some, ⊤}
 use Rattle.ja_base.specs.declared.meter.Meter.{Meter}
 use Rattle.sat_plain.specs.Ticks.{SpendsAtLeast, IsRefused}
-use Rattle.sat_plain.specs.declared.pay.Payment.{Payment}
-use Rattle.sat_plain.specs.declared.pay.Payment.TheVariants.{Paid, Spent, Stopped}
+use Rattle.sat_plain.specs.declared.budget.Payment.{Payment}
+use Rattle.sat_plain.specs.declared.budget.Payment.TheVariants.{Paid, Spent, Stopped}
 
 -- n units were spent, as far as the count reaches, and no tick was refused
 pub record Spends (before now : Meter) (n : ℕ) : Type 0 where

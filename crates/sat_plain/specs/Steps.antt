@@ -4,7 +4,8 @@ use Rattle.refute_check.specs.declared.found.Found.{Found}
 use Rattle.refute_check.specs.declared.found.Found.TheVariants.{False, Forces, Other}
 use Rattle.sat_plain.specs.declared.propagate.Progress.{Progress}
 use Rattle.sat_plain.specs.declared.propagate.Progress.TheVariants.{Conflict, Moved, Quiet}
-use Rattle.sat_plain.specs.Trails.{Assigned, AreFalse, IsFull, IsQuiet, lits_of}
+use Rattle.ja_base.specs.Trails.{AreFalse, IsFull}
+use Rattle.sat_plain.specs.Trails.{Assigned, IsQuiet, lits_of}
 
 -- the clause of this number is false
 pub record IsConflict (clauses : List (List ℕ)) (lits : List ℕ) (n : ℕ) : Type 0 where

@@ -8,6 +8,7 @@ use Rattle.refute_check.specs.Laws.{AreAccepted, with_lines}
 use Rattle.refute_check.specs.Refuted.{is_covered}
 use Rattle.refute_check.specs.declared.lines.Line.{Line}
 use Rattle.sat_plain.specs.declared.place.Place.{Place}
+use Rattle.sat_plain.specs.declared.query.Query.{Query}
 use Rattle.sat_plain.specs.Trails.{AreForced, lits_of, kinds_of}
 use Rattle.sat_plain.specs.Rank.{rank}
 
@@ -37,6 +38,15 @@ pub record IsNext (vars assumed : ℕ) (places : List Place) (lines : List Line)
   pub log : (given : List (List ℕ)) → IsLog vars given lines clauses.list → IsLog vars given lines' clauses'.list
   pub store : IsExtended clauses clauses'
   pub few : length lines' ≤ length lines + 1
+
+-- the search is under way with this query over the clauses
+abbrev pub IsUnderWay : Query → Numbering → Type 0
+IsUnderWay query clauses = IsSearch query.trail.vars query.assumed query.trail.places clauses.list
+
+-- what stays over a turn, of query and clauses
+abbrev pub Continues : Query → Numbering → Query → Numbering → Type 0
+Continues before clauses after clauses' =
+    IsNext before.trail.vars before.assumed before.trail.places before.lines clauses after.trail.places after.lines clauses'
 
 -- literals out of these that contradict the clauses at once
 pub record IsCore (lits : List ℕ) (clauses : List (List ℕ)) (core : List ℕ) : Type 0 where

@@ -2,7 +2,8 @@
 use Rattle.std.specs.Prelude.{◌≡◌, ℕ, ◌≤◌, ◌<◌, List, [], take, slice_get, Option, Some, None}
 use Rattle.ja_base.specs.Literals.{negated}
 use Rattle.sat_plain.specs.declared.place.Place.{Place}
-use Rattle.sat_plain.specs.Trails.{IsReason, lits_of}
+use Rattle.ja_base.specs.Trails.{IsReason}
+use Rattle.sat_plain.specs.Trails.{lits_of}
 use Rattle.sat_plain.specs.Derive.{Derived, IsDerived}
 
 -- q is the place of a decision, and the clause of these literals forces the negation of its literal by the places before

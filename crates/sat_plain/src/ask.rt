@@ -1,14 +1,14 @@
 //! A query, from its first unit to the answer.
 
-ghost use Rattle.std.specs.Prelude.{◌≡◌, ◌+◌, ◌≤◌, ◌^◌, All, length, option_copied, IsTrue};
+ghost use Rattle.std.specs.Prelude.{◌≡◌, ◌+◌, ◌≤◌, ◌^◌, All, length, option_copied};
 ghost use Rattle.ja_base.specs.Clauses.{IsBelow};
-ghost use Rattle.ja_outside.specs.Faults.{Rose};
+ghost use Rattle.ja_outside.specs.Flags.{IsPolled, IsFoundRaised};
 ghost use Rattle.sat_plain.specs.Answer.{clauses_of, ExtraIsBelow, IsAnswer, OnStopped, OnUnsat};
 ghost use Rattle.sat_plain.specs.Ticks.{TicksAtMost, SpendsAtLeast, IsLater, IsTicked};
 ghost use Rattle.sat_plain.specs.Turns.{IsExtended};
 
 use crate::answer::SatAnswer;
-use crate::pay::{Payment, pay};
+use crate::budget::{Payment, pay};
 use crate::search::search;
 use crate::start::{Opening, start};
 use ja_base::{Clause, Lit, Meter};
@@ -31,15 +31,16 @@ pub(crate) fn ask<F: Flag>(
     requires under { IsBelow vars under.now }
     requires extra { ExtraIsBelow vars (option_copied extra) }
     ensures store { IsExtended clauses.old clauses.new }
-    ensures answer { IsAnswer vars (clauses_of clauses.old.list (option_copied extra.entry)) under.now result }
+    ensures answer { IsAnswer vars
+        (clauses_of clauses.old.list (option_copied extra.entry)) under.now result }
     ensures ticked { IsTicked meter.old meter.new result }
-    ensures lines { OnUnsat result (λ refuted. SpendsAtLeast meter.old meter.new (1 + length refuted.lines)) }
+    ensures lines { OnUnsat result (λ refuted.
+        SpendsAtLeast meter.old meter.new (1 + length refuted.lines)) }
     ensures later { IsLater meter.old meter.new }
     ensures bounded { TicksAtMost meter.old meter.new (1 + 3 ^ vars) }
-    ensures stopped { OnStopped result (Rose (F.raised flag.old) (F.raised flag.new)) }
-    ensures may_stop { OnStopped result (IsTrue (F.may_rise flag.old)) }
-    ensures flag_kept { F.may_rise flag.new ≡ F.may_rise flag.old }
-    ensures flag_later { F.raised flag.old ≤ F.raised flag.new }
+    ensures stopped { OnStopped result
+        (IsFoundRaised F.may_rise F.raised flag.old flag.new) }
+    ensures flag { IsPolled F.may_rise F.raised flag.old flag.new }
 {
     match pay(meter, flag) {
         Payment::Spent => SatAnswer::Spent,

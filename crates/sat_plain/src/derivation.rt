@@ -4,8 +4,9 @@ ghost use Rattle.std.specs.Prelude.{◌≡◌, ◌*◌, ◌<◌, ◌≤◌, ◌+
 ghost use Rattle.std.specs.Bool.{OnTrue};
 ghost use Rattle.ja_base.specs.Literals.{bit, negated};
 ghost use Rattle.ja_base.specs.Clauses.{IsBelow, IsSetOf};
+ghost use Rattle.refute_check.specs.Lines.{assumed, unknown};
 ghost use Rattle.refute_check.specs.Spans.{Spans};
-ghost use Rattle.sat_plain.specs.Derive.{Begins, Skips, Resolves, Keeps, Finishes};
+ghost use Rattle.sat_plain.specs.Derive.{resolved_marks, Begins, Skips, Resolves, Keeps, Finishes};
 
 use ja_base::{Clause, Lit, Memory};
 use refute_check::{Hints, Line, assume};
@@ -43,6 +44,7 @@ impl Derivation {
     ) -> Result<Derivation, Memory>
         requires { IsBelow vars clause.now }
         ensures width { IfOk result (λ walk. length walk.marks ≡ 2 * vars) }
+        ensures marks { IfOk result (λ walk. walk.marks ≡ assumed clause.now (unknown vars)) }
         ensures lits { IfOk result (λ walk. walk.lits ≡ []) }
         ensures begins { IfOk result (Begins vars number clause.now) }
     {
@@ -71,6 +73,8 @@ impl Derivation {
         requires lit { (lit < length self.old.marks) × (negated lit < length self.old.marks) }
         requires clause { Spans (length self.old.marks) clause.now }
         ensures width { length self.new.marks ≡ length self.old.marks }
+        ensures marks { OnOk result
+            (self.new.marks ≡ resolved_marks clause.now lit self.old.marks) }
         ensures lits { self.new.lits ≡ self.old.lits }
         ensures err { OnErr result (self.new ≡ self.old) }
         ensures resolves { OnOk result (Resolves self.old lit number clause.now self.new) }
@@ -88,7 +92,7 @@ impl Derivation {
     /// Keeps the literal, which is marked: its negation joins the clause.
     pub fn keep(&mut self, lit: Lit) -> Result<(), Memory>
         requires { bit self.old.marks lit ≡ true }
-        ensures width { length self.new.marks ≡ length self.old.marks }
+        ensures marks { self.new.marks ≡ self.old.marks }
         ensures lits { OnOk result (self.new.lits ≡ self.old.lits ++ negated lit ∷ []) }
         ensures err { OnErr result (self.new ≡ self.old) }
         ensures keeps { OnOk result (Keeps self.old lit self.new) }

@@ -1,19 +1,17 @@
-//! Solvers of clauses. What a query answers stands in `specs/Answer`, and what it ticks in `specs/Ticks`; `specs/Derive`
-//! says how a line is derived from a conflict, and `specs/Rank` why a search ends.
+//! Solvers of clauses. What a query answers stands in `specs/Answer`, a question without a log in `specs/Probed`, and what
+//! they tick in `specs/Ticks`; `specs/Derive` says how a line is derived from a conflict, and `specs/Rank` why a search ends.
 #![tactic(auto)]
 
+mod analyze;
 mod answer;
 mod ask;
+mod backtrack;
+mod budget;
 mod derivation;
-mod laws;
-mod learn;
-#[cfg(test)]
-mod masks;
-#[cfg(test)]
-mod no_rows;
-mod pay;
 mod place;
 mod plain;
+mod plain_probe;
+mod probe;
 mod propagate;
 mod query;
 mod sat;
@@ -23,10 +21,11 @@ mod start;
 mod tests;
 mod trail;
 mod turn;
-mod walk;
 
 pub use answer::SatAnswer;
 pub use derivation::Derivation;
-pub use laws::what_is_answered_is_refuted;
+pub use place::Place;
 pub use plain::PlainSat;
+pub use probe::{Probe, Probed};
 pub use sat::Sat;
+pub use trail::Trail;

@@ -1,22 +1,20 @@
 //! The plain solver.
 
-ghost use Rattle.std.specs.Prelude.{◌≡◌, ◌+◌, ◌≤◌, ◌^◌, [], ◌∷◌, ◌++◌, length, option_copied, IfOk, OnOk, OnErr, IsTrue};
+ghost use Rattle.std.specs.Prelude.{◌≡◌, ◌+◌, ◌<◌, ◌^◌, [], ◌∷◌, ◌++◌, length, option_copied, IfOk, OnOk, OnErr};
 ghost use Rattle.ja_base.specs.Clauses.{IsBelow};
-ghost use Rattle.ja_outside.specs.Faults.{Rose};
+ghost use Rattle.ja_outside.specs.Flags.{IsPolled, IsFoundRaised};
 ghost use Rattle.sat_plain.specs.Answer.{clauses_of, ExtraIsBelow, IsAnswer, OnStopped, OnUnsat};
 ghost use Rattle.sat_plain.specs.Ticks.{TicksAtMost, SpendsAtLeast, IsLater, IsTicked};
 
 use crate::answer::SatAnswer;
 use crate::ask::ask;
 use crate::sat::Sat;
+use crate::trail::MOST_VARS;
 use ja_base::{Clause, Lit, Memory, Meter, Var};
 use ja_outside::Flag;
 use refute_check::Numbered;
 use std::alloc::Global;
 use std::marker::Model;
-
-/// As many variables have literals.
-const MOST_VARS: u32 = 1 << 31;
 
 /// A solver that propagates by passes over all clauses and goes back to the last decision at each conflict. It keeps
 /// nothing from query to query but the added clauses.
@@ -57,6 +55,7 @@ impl Sat for PlainSat {
 
     fn fresh(&mut self) -> Result<Var, Memory>
         ensures var { IfOk result (λ var. var ≡ self.old.vars) }
+        ensures small { IfOk result (λ var. var < 2 ^ 31) }
         ensures ok { OnOk result (self.new.vars ≡ self.old.vars + 1) }
         ensures err { OnErr result (self.new.vars ≡ self.old.vars) }
         ensures added { self.new.added ≡ self.old.added }
@@ -93,15 +92,16 @@ impl Sat for PlainSat {
         requires extra { ExtraIsBelow self.old.vars (option_copied extra) }
         ensures count { self.new.vars ≡ self.old.vars }
         ensures added { self.new.added ≡ self.old.added }
-        ensures answer { IsAnswer self.old.vars (clauses_of self.old.added (option_copied extra.entry)) under.now result }
+        ensures answer { IsAnswer self.old.vars
+            (clauses_of self.old.added (option_copied extra.entry)) under.now result }
         ensures ticked { IsTicked meter.old meter.new result }
-        ensures lines { OnUnsat result (λ refuted. SpendsAtLeast meter.old meter.new (1 + length refuted.lines)) }
+        ensures lines { OnUnsat result (λ refuted.
+            SpendsAtLeast meter.old meter.new (1 + length refuted.lines)) }
         ensures later { IsLater meter.old meter.new }
         ensures bounded { TicksAtMost meter.old meter.new (1 + 3 ^ self.old.vars) }
-        ensures stopped { OnStopped result (Rose (F.raised flag.old) (F.raised flag.new)) }
-        ensures may_stop { OnStopped result (IsTrue (F.may_rise flag.old)) }
-        ensures flag_kept { F.may_rise flag.new ≡ F.may_rise flag.old }
-        ensures flag_later { F.raised flag.old ≤ F.raised flag.new }
+        ensures stopped { OnStopped result
+            (IsFoundRaised F.may_rise F.raised flag.old flag.new) }
+        ensures flag { IsPolled F.may_rise F.raised flag.old flag.new }
     {
         let answer = ask(
             alloc,
@@ -112,7 +112,7 @@ impl Sat for PlainSat {
             meter,
             flag,
         );
-        self.clauses.keep();
+        self.clauses.forget_lines();
         answer
     }
 }

@@ -2,8 +2,9 @@
 
 ghost use Rattle.std.specs.Prelude.{◌≡◌, ◌<◌, [], All, length, slice_index_or};
 ghost use Rattle.ja_base.specs.Clauses.{IsBelow};
-ghost use Rattle.refute_check.specs.Lines.{found_of, open_lits};
-ghost use Rattle.sat_plain.specs.Trails.{IsTrail, AreForced, IsGrown, IsQuiet, lits_of};
+ghost use Rattle.ja_base.specs.Trails.{open_lits};
+ghost use Rattle.refute_check.specs.Lines.{found_of};
+ghost use Rattle.sat_plain.specs.Trails.{AreForced, IsAssigned, IsGrown, IsQuiet};
 ghost use Rattle.sat_plain.specs.Steps.{IsExamined, IsPassed, IsAdvanced};
 
 use crate::trail::Trail;
@@ -32,7 +33,7 @@ fn examine(trail: &mut Trail, clauses: &Numbered, at: u32) -> Found
     ensures step { IsExamined clauses.now.list at trail.old trail.new result }
     ensures grown { IsGrown trail.old.places trail.new.places }
     ensures forced { AreForced clauses.now.list trail.new.places }
-    ensures is { IsTrail trail.new.vars trail.new.values (lits_of trail.new.places) }
+    ensures is { IsAssigned trail.new }
 {
     match scan(trail.values(), clauses.clause(at).lits()) {
         Found::Forces(lit) => {
@@ -51,7 +52,7 @@ fn pass(trail: &mut Trail, clauses: &Numbered) -> Progress
     ensures vars { trail.new.vars ≡ trail.old.vars }
     ensures grown { IsGrown trail.old.places trail.new.places }
     ensures forced { AreForced clauses.now.list trail.new.places }
-    ensures is { IsTrail trail.new.vars trail.new.values (lits_of trail.new.places) }
+    ensures is { IsAssigned trail.new }
     ensures step { IsPassed clauses.now.list trail.old trail.new result }
 {
     let before = trail.len();
@@ -74,7 +75,7 @@ fn decide(trail: &mut Trail, clauses: &Numbered) -> Progress
     ensures vars { trail.new.vars ≡ trail.old.vars }
     ensures grown { IsGrown trail.old.places trail.new.places }
     ensures forced { AreForced clauses.now.list trail.new.places }
-    ensures is { IsTrail trail.new.vars trail.new.values (lits_of trail.new.places) }
+    ensures is { IsAssigned trail.new }
     ensures step { IsAdvanced clauses.now.list trail.old trail.new result }
 {
     match trail.unset() {
@@ -93,7 +94,7 @@ pub(crate) fn advance(trail: &mut Trail, clauses: &Numbered) -> Progress
     ensures vars { trail.new.vars ≡ trail.old.vars }
     ensures grown { IsGrown trail.old.places trail.new.places }
     ensures forced { AreForced clauses.now.list trail.new.places }
-    ensures is { IsTrail trail.new.vars trail.new.values (lits_of trail.new.places) }
+    ensures is { IsAssigned trail.new }
     ensures step { IsAdvanced clauses.now.list trail.old trail.new result }
 {
     match pass(trail, clauses) {

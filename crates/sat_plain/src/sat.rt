@@ -1,8 +1,8 @@
 //! What a solver is.
 
-ghost use Rattle.std.specs.Prelude.{◌≡◌, ℕ, ◌+◌, ◌≤◌, ◌^◌, List, [], ◌∷◌, ◌++◌, length, option_copied, IfOk, OnOk, OnErr, IsTrue};
+ghost use Rattle.std.specs.Prelude.{◌≡◌, ℕ, ◌+◌, ◌<◌, ◌^◌, List, [], ◌∷◌, ◌++◌, length, option_copied, IfOk, OnOk, OnErr};
 ghost use Rattle.ja_base.specs.Clauses.{IsBelow};
-ghost use Rattle.ja_outside.specs.Faults.{Rose};
+ghost use Rattle.ja_outside.specs.Flags.{IsPolled, IsFoundRaised};
 ghost use Rattle.sat_plain.specs.Answer.{clauses_of, ExtraIsBelow, IsAnswer, OnStopped};
 ghost use Rattle.sat_plain.specs.Ticks.{TicksAtMost, IsLater, IsTicked};
 
@@ -13,7 +13,7 @@ use std::alloc::Global;
 
 /// A solver of clauses that logs its refutations. It has variables, numbered from 0, and added clauses; between queries it
 /// may keep whatever helps it, as long as these two stay.
-pub trait Sat: Sized {
+pub trait Sat: Sized + Drop {
     /// How many variables it has.
     ghost count: { Self → ℕ };
 
@@ -27,6 +27,7 @@ pub trait Sat: Sized {
     /// One more variable: the least that it does not have yet.
     fn fresh(&mut self) -> Result<Var, Memory>
         ensures var { IfOk result (λ var. var ≡ count self.old) }
+        ensures small { IfOk result (λ var. var < 2 ^ 31) }
         ensures ok { OnOk result (count self.new ≡ count self.old + 1) }
         ensures err { OnErr result (count self.new ≡ count self.old) }
         ensures added { added self.new ≡ added self.old };
@@ -53,12 +54,12 @@ pub trait Sat: Sized {
         requires extra { ExtraIsBelow (count self.old) (option_copied extra) }
         ensures count { count self.new ≡ count self.old }
         ensures added { added self.new ≡ added self.old }
-        ensures answer { IsAnswer (count self.old) (clauses_of (added self.old) (option_copied extra.entry)) under.now result }
+        ensures answer { IsAnswer (count self.old)
+            (clauses_of (added self.old) (option_copied extra.entry)) under.now result }
         ensures ticked { IsTicked meter.old meter.new result }
         ensures later { IsLater meter.old meter.new }
         ensures bounded { TicksAtMost meter.old meter.new (1 + 3 ^ count self.old) }
-        ensures stopped { OnStopped result (Rose (F.raised flag.old) (F.raised flag.new)) }
-        ensures may_stop { OnStopped result (IsTrue (F.may_rise flag.old)) }
-        ensures flag_kept { F.may_rise flag.new ≡ F.may_rise flag.old }
-        ensures flag_later { F.raised flag.old ≤ F.raised flag.new };
+        ensures stopped { OnStopped result
+            (IsFoundRaised F.may_rise F.raised flag.old flag.new) }
+        ensures flag { IsPolled F.may_rise F.raised flag.old flag.new };
 }

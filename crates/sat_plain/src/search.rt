@@ -1,11 +1,11 @@
 //! The search under the literals that are assumed.
 
-ghost use Rattle.std.specs.Prelude.{◌≡◌, ◌≤◌, ◌^◌, [], take, IsTrue};
-ghost use Rattle.ja_outside.specs.Faults.{Rose};
+ghost use Rattle.std.specs.Prelude.{◌≡◌, ◌^◌, [], take};
+ghost use Rattle.ja_outside.specs.Flags.{IsPolled, IsFoundRaised};
 ghost use Rattle.sat_plain.specs.Answer.{OnStopped};
 ghost use Rattle.sat_plain.specs.Ticks.{TicksAtMost, IsLater};
 ghost use Rattle.sat_plain.specs.Trails.{lits_of};
-ghost use Rattle.sat_plain.specs.Turns.{IsSearch, IsExtended};
+ghost use Rattle.sat_plain.specs.Turns.{IsUnderWay, IsExtended};
 ghost use Rattle.sat_plain.specs.Outcomes.{IsFound, IsFoundTicked};
 
 use crate::answer::SatAnswer;
@@ -25,17 +25,17 @@ pub(crate) fn search<F: Flag>(
     meter: &mut Meter,
     flag: &mut F,
 ) -> SatAnswer
-    requires search { IsSearch query.trail.vars query.assumed query.trail.places clauses.old.list }
+    requires search { IsUnderWay query clauses.old }
     requires lines { query.lines ≡ [] }
     ensures store { IsExtended clauses.old clauses.new }
-    ensures answer { IsFound query.trail.vars clauses.old.list (take query.assumed (lits_of query.trail.places)) result }
+    ensures answer { IsFound query.trail.vars clauses.old.list
+        (take query.assumed (lits_of query.trail.places)) result }
     ensures ticked { IsFoundTicked meter.old meter.new result }
     ensures later { IsLater meter.old meter.new }
     ensures bounded { TicksAtMost meter.old meter.new (3 ^ query.trail.vars) }
-    ensures stopped { OnStopped result (Rose (F.raised flag.old) (F.raised flag.new)) }
-    ensures may_stop { OnStopped result (IsTrue (F.may_rise flag.old)) }
-    ensures flag_kept { F.may_rise flag.new ≡ F.may_rise flag.old }
-    ensures flag_later { F.raised flag.old ≤ F.raised flag.new }
+    ensures stopped { OnStopped result
+        (IsFoundRaised F.may_rise F.raised flag.old flag.new) }
+    ensures flag { IsPolled F.may_rise F.raised flag.old flag.new }
 {
     loop {
         match turn(alloc, clauses, &mut query, meter, flag) {

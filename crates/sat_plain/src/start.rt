@@ -24,7 +24,8 @@ pub(crate) enum Opening {
 
 /// The extra clause takes the next number, where it is given.
 fn put_extra(alloc: Global, clauses: &mut Numbered, extra: Option<&Clause>) -> Result<(), Memory>
-    ensures ok { OnOk result (clauses.new.list ≡ clauses_of clauses.old.list (option_copied extra.entry)) }
+    ensures ok { OnOk result
+        (clauses.new.list ≡ clauses_of clauses.old.list (option_copied extra.entry)) }
     ensures store { IsExtended clauses.old clauses.new }
 {
     match extra {
@@ -43,7 +44,8 @@ fn assume_one(trail: &mut Trail, lit: Lit)
     requires below { variable lit < trail.old.vars }
     requires free { bit trail.old.values (negated lit) ≡ false }
     ensures vars { trail.new.vars ≡ trail.old.vars }
-    ensures assumed { (under : List ℕ) → AreAssumed under trail.old.places → AreAssumed (under ++ lit ∷ []) trail.new.places }
+    ensures assumed { (under : List ℕ) → AreAssumed under trail.old.places
+        → AreAssumed (under ++ lit ∷ []) trail.new.places }
 {
     if trail.is_true(lit) {
         return;
@@ -111,7 +113,8 @@ pub(crate) fn start(
     requires vars { vars ≤ 2 ^ 31 }
     requires under { IsBelow vars under.now }
     ensures opened { IsOpened vars under.now result }
-    ensures list { OnReady result (clauses.new.list ≡ clauses_of clauses.old.list (option_copied extra.entry)) }
+    ensures list { OnReady result
+        (clauses.new.list ≡ clauses_of clauses.old.list (option_copied extra.entry)) }
     ensures store { IsExtended clauses.old clauses.new }
 {
     match put_extra(alloc, clauses, extra) {

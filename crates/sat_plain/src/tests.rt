@@ -1,23 +1,17 @@
 ghost use Rattle.std.specs.Prelude.{◌≡◌, ◌<◌, ℕ, List, IfOk};
 ghost use Rattle.ja_base.specs.Clauses.{IsBelow};
 
-use crate::masks::{VARS, clause_of, has_row, holds, lits_of, mask_of, row_mask};
-use crate::no_rows::NoRows;
-use crate::{PlainSat, Sat, SatAnswer};
-use ja_base::{Memory, Meter};
+mod masks;
+mod no_rows;
+
+use crate::tests::masks::{VARS, clause_of, has_row, holds, lits_of, mask_of, row_mask};
+use crate::tests::no_rows::NoRows;
+use crate::{PlainSat, Probe, Probed, Sat, SatAnswer};
+use ja_base::{Memory, Meter, Row, Var};
 use ja_outside::{MemFlag, NoFlag};
-use refute_check::{Checker, Hints, Line, Refuted};
+use refute_check::{Checker, Refuted};
 use std::alloc::Global;
 use std::test::Fail;
-
-fn copy_line(alloc: Global, line: &Line) -> Result<Line, Memory> {
-    let mut hints = Hints::new(alloc);
-    for hint in line.hints.as_slice() {
-        hints.push(*hint)?;
-    }
-    let clause = line.clause.copy(alloc)?;
-    Ok(Line { clause, hints })
-}
 
 fn checker_of(alloc: Global, clauses: &[u64]) -> Result<Checker, Memory> {
     let mut checker = Checker::new(alloc, VARS)?;
@@ -31,14 +25,15 @@ fn checker_of(alloc: Global, clauses: &[u64]) -> Result<Checker, Memory> {
 /// Whether a fresh checker takes each line and then covers the core.
 fn is_shown(alloc: Global, clauses: &[u64], refuted: &Refuted) -> Result<bool, Memory> {
     let mut checker = checker_of(alloc, clauses)?;
-    for line in refuted.lines.as_slice() {
+    let copy = refuted.copy(alloc)?;
+    for line in copy.lines.as_slice() {
         checker.reserve(1)?;
-        let line = copy_line(alloc, line)?;
+        let line = line.copy(alloc)?;
         if checker.line(line).is_err() {
             return Ok(false);
         }
     }
-    Ok(checker.covers(refuted.core.as_slice()))
+    Ok(checker.covers(copy.core.as_slice()))
 }
 
 /// Whether the answer is one that a count over the rows gives, with a refutation that a checker takes.
@@ -201,8 +196,90 @@ fn answers_queries(rt: HostRuntime) -> Result<(), Fail> {
     Ok(())
 }
 
+// The clauses {2, 4} and {2, 5}: the decision of 3 ends in a conflict, and then a row is found. A second unit is asked for
+// at that conflict, and behind it a second poll.
+#[test]
+fn pays_for_a_conflict_before_a_row(rt: HostRuntime) -> Result<(), Fail> {
+    let alloc = rt.alloc();
+    let mut solver = solver_of(alloc, &[0b010100, 0b100100])?;
+    let rows: [(Option<u64>, Option<u64>, Told); 4] = [
+        (Some(1), None, Told::Spent),
+        (Some(2), None, Told::Row(0b100000)),
+        (None, Some(1), Told::Stopped),
+        (None, Some(2), Told::Row(0b100000)),
+    ];
+    for (limit, after, answer) in rows {
+        assert_eq!(rt;
+            ask(alloc, &mut solver, 0, None, limit, after)?,
+            answer,
+            "{limit:?} and {after:?}"
+        );
+    }
+    Ok(())
+}
+
+/// What is told of a question without a log: of a row that was all 1 before, its bits.
+fn told_of_probe(probed: &Probed, row: &Row) -> Told {
+    match probed {
+        Probed::Open => Told::Row(row_mask(row)),
+        Probed::Closed(core) => Told::Core(mask_of(core.as_slice())),
+        Probed::Spent => Told::Spent,
+        Probed::Stopped => Told::Stopped,
+        Probed::Memory => Told::Memory,
+    }
+}
+
+fn probe<S: Probe>(
+    alloc: Global,
+    under: u64,
+    among: Option<&[Var]>,
+    width: u32,
+    limit: Option<u64>,
+) -> Result<Told, Memory> {
+    let mut solver = S::make(alloc, VARS)?;
+    let lits = lits_of(alloc, under)?;
+    let extra = clause_of(alloc, 0b011000)?;
+    let mut row = Row::ones(alloc, width)?;
+    let probed = solver.probe(
+        alloc,
+        lits.as_slice(),
+        Some(&extra),
+        among,
+        &mut row,
+        &mut Meter::new(limit),
+        &mut NoFlag,
+    );
+    Ok(told_of_probe(&probed, &row))
+}
+
+// The clause {3, 4} alone, as the extra one. The front of a row is written, and no bit past the variables.
+#[test]
+fn asks_without_a_log(rt: HostRuntime) -> Result<(), Fail> {
+    let alloc = rt.alloc();
+    let rows: [(u64, Option<&[Var]>, u32, Option<u64>, Told); 6] = [
+        (0b000100, None, 3, None, Told::Row(0b010110)),
+        (0b000100, None, 4, None, Told::Row(0b01010110)),
+        (0b000100, None, 2, None, Told::Row(0b000110)),
+        (0b000100, Some(&[Var(0)]), 3, None, Told::Row(0b010110)),
+        (0b100101, None, 3, None, Told::Core(0b100100)),
+        (0b000100, None, 3, Some(0), Told::Spent),
+    ];
+    for (under, among, width, limit, answer) in rows {
+        assert_eq!(rt;
+            probe::<PlainSat>(alloc, under, among, width, limit)?,
+            answer,
+            "under {under} with {width} bits and {limit:?}"
+        );
+    }
+    assert_eq!(rt;
+        probe::<NoRows>(alloc, 0b000100, None, 3, None)?,
+        Told::Memory
+    );
+    Ok(())
+}
+
 /// What any solver tells of a fresh variable 2, where its literal 4 is to hold with `under`.
-fn told_by<S: Sat + Drop>(alloc: Global, under: u64) -> Result<Told, Memory> {
+fn told_by<S: Sat>(alloc: Global, under: u64) -> Result<Told, Memory> {
     let mut solver = S::make(alloc, 2)?;
     solver.fresh()?;
     let clause = clause_of(alloc, 0b010000)?;

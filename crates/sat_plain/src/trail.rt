@@ -1,17 +1,20 @@
 //! The literals that are true, in the order in which they became so.
 
-ghost use Rattle.std.specs.Prelude.{◌≡◌, ℕ, ◌+◌, ◌*◌, ◌^◌, ◌<◌, ◌≤◌, ◌-◌, [], ◌∷◌, ◌++◌, Bool, false, true, length, take, slice_get, Some, IfOk, IfSome, IfNone};
+ghost use Rattle.std.specs.Prelude.{◌≡◌, ℕ, ◌+◌, ◌*◌, ◌^◌, ◌<◌, ◌≤◌, ◌-◌, [], ◌∷◌, ◌++◌, Bool, false, true, length, take, slice_get, Some, IfOk, IfSome, IfNone, OnOk, OnErr};
 ghost use Rattle.ja_base.specs.Literals.{bit, variable, negated};
-ghost use Rattle.sat_plain.specs.Trails.{IsTrail, lits_of};
+ghost use Rattle.sat_plain.specs.Trails.{IsAssigned};
 
 use crate::place::Place;
 use ja_base::{Lit, Memory, Row, Var};
 use std::alloc::Global;
 use std::marker::Model;
 
-/// A bit for each literal, set where it is true, and the places in order.
+/// As many variables have literals.
+pub(crate) const MOST_VARS: u32 = 1 << 31;
+
+/// A bit for each literal, set where it is true, and the places in order. There is room for a place for each variable.
 #[derive(Debug, Drop)]
-pub(crate) struct Trail {
+pub struct Trail {
     vars: u32,
     values: Vec<bool>,
     places: Vec<Place>,
@@ -19,7 +22,8 @@ pub(crate) struct Trail {
 
 impl Model for Trail {
     ghost use Rattle.std.specs.Prelude.{◌≤◌, ◌^◌, vec_capacity};
-    ghost use Rattle.sat_plain.specs.Trails.{Assigned, IsTrail, lits_of};
+    ghost use Rattle.ja_base.specs.Trails.{IsTrail};
+    ghost use Rattle.sat_plain.specs.Trails.{Assigned, lits_of};
 
     ghost Value = { Assigned };
 
@@ -31,7 +35,7 @@ impl Model for Trail {
 
 impl Trail {
     /// No literal is true.
-    pub(crate) fn new(alloc: Global, vars: u32) -> Result<Trail, Memory>
+    pub fn new(alloc: Global, vars: u32) -> Result<Trail, Memory>
         requires { vars ≤ 2 ^ 31 }
         ensures vars { IfOk result (λ trail. trail.vars ≡ vars) }
         ensures places { IfOk result (λ trail. trail.places ≡ []) }
@@ -45,51 +49,72 @@ impl Trail {
         })
     }
 
-    pub(crate) fn len(&self) -> u32
+    pub fn len(&self) -> u32
         ensures value { result ≡ length self.now.places }
-        ensures is { IsTrail self.now.vars self.now.values (lits_of self.now.places) }
+        ensures is { IsAssigned self.now }
     {
         self.places.len() as u32
     }
 
-    pub(crate) fn place(&self, at: u32) -> &Place
+    pub fn place(&self, at: u32) -> &Place
         requires { at < length self.now.places }
         ensures value { slice_get self.now.places at ≡ Some result.now }
-        ensures is { IsTrail self.now.vars self.now.values (lits_of self.now.places) }
+        ensures is { IsAssigned self.now }
     {
         &self.places[at as usize]
     }
 
-    pub(crate) fn vars(&self) -> u32
+    pub fn vars(&self) -> u32
         ensures { result ≡ self.now.vars }
     {
         self.vars
     }
 
-    pub(crate) fn values(&self) -> &[bool]
+    pub fn values(&self) -> &[bool]
         ensures value { result.now ≡ self.now.values }
-        ensures is { IsTrail self.now.vars self.now.values (lits_of self.now.places) }
+        ensures is { IsAssigned self.now }
     {
         self.values.as_slice()
     }
 
-    pub(crate) fn is_true(&self, lit: Lit) -> bool
+    pub fn is_true(&self, lit: Lit) -> bool
         requires { variable lit < self.now.vars }
         ensures value { result ≡ bit self.now.values lit }
-        ensures is { IsTrail self.now.vars self.now.values (lits_of self.now.places) }
+        ensures is { IsAssigned self.now }
     {
         self.values[lit.number() as usize]
     }
 
+    /// One more variable, which has no value.
+    pub fn fresh(&mut self) -> Result<Var, Memory>
+        ensures var { IfOk result (λ var. var ≡ self.old.vars) }
+        ensures small { IfOk result (λ var. var < 2 ^ 31) }
+        ensures ok { OnOk result (self.new.vars ≡ self.old.vars + 1) }
+        ensures places { self.new.places ≡ self.old.places }
+        ensures err { OnErr result (self.new ≡ self.old) }
+    {
+        if self.vars >= MOST_VARS {
+            return Err(Memory);
+        }
+        let room = self.vars as usize + 1 - self.places.len();
+        self.places.reserve(room)?;
+        self.values.reserve(2)?;
+        self.values.push_reserved(false);
+        self.values.push_reserved(false);
+        let var = Var(self.vars);
+        self.vars += 1;
+        Ok(var)
+    }
+
     /// The literal becomes true.
-    pub(crate) fn push(&mut self, lit: Lit, reason: Option<u32>)
+    pub fn push(&mut self, lit: Lit, reason: Option<u32>)
         requires below { variable lit < self.old.vars }
         requires unset { bit self.old.values lit ≡ false }
         requires free { bit self.old.values (negated lit) ≡ false }
         ensures vars { self.new.vars ≡ self.old.vars }
         ensures places { self.new.places
             ≡ self.old.places ++ record { lit = lit; reason = reason } ∷ [] }
-        ensures is { IsTrail self.new.vars self.new.values (lits_of self.new.places) }
+        ensures is { IsAssigned self.new }
     {
         self.values[lit.number() as usize] = true;
         self.places.push_reserved(Place { lit, reason });
@@ -107,10 +132,10 @@ impl Trail {
     }
 
     /// Leaves the first places, so many.
-    pub(crate) fn undo(&mut self, to: u32)
+    pub fn undo(&mut self, to: u32)
         ensures vars { self.new.vars ≡ self.old.vars }
         ensures places { self.new.places ≡ take to self.old.places }
-        ensures is { IsTrail self.new.vars self.new.values (lits_of self.new.places) }
+        ensures is { IsAssigned self.new }
     {
         while self.len() > to {
             self.pop();
@@ -118,13 +143,14 @@ impl Trail {
     }
 
     /// The first variable that has no value.
-    pub(crate) fn unset(&self) -> Option<Var>
+    pub fn unset(&self) -> Option<Var>
         ensures var { IfSome result (λ var. (var < self.now.vars)
-            × (bit self.now.values (2 * var) ≡ false) × (bit self.now.values (2 * var + 1) ≡ false)) }
+            × (bit self.now.values (2 * var) ≡ false)
+            × (bit self.now.values (2 * var + 1) ≡ false)) }
         ensures small { IfSome result (λ var. var < 2 ^ 31) }
         ensures full { IfNone result ((var : ℕ) → var < self.now.vars
             → bit self.now.values (2 * var) ≡ false → bit self.now.values (2 * var + 1) ≡ true) }
-        ensures is { IsTrail self.now.vars self.now.values (lits_of self.now.places) }
+        ensures is { IsAssigned self.now }
     {
         for var in 0..self.vars {
             let lit = 2 * var as usize;
@@ -136,11 +162,11 @@ impl Trail {
     }
 
     /// The bit of each variable, 0 where it has no value.
-    pub(crate) fn row(&self, alloc: Global) -> Result<Row, Memory>
+    pub fn row(&self, alloc: Global) -> Result<Row, Memory>
         ensures width { IfOk result (λ row. length row ≡ self.now.vars) }
         ensures bits { IfOk result (λ row. (var : ℕ) → var < self.now.vars
             → bit row var ≡ bit self.now.values (2 * var)) }
-        ensures is { IsTrail self.now.vars self.now.values (lits_of self.now.places) }
+        ensures is { IsAssigned self.now }
     {
         let mut row = Row::zeros(alloc, self.vars)?;
         for var in 0..self.vars {

@@ -1,13 +1,13 @@
 //! One turn of a search.
 
-ghost use Rattle.std.specs.Prelude.{◌≡◌, ◌≤◌, length, IsTrue};
-ghost use Rattle.ja_outside.specs.Faults.{Rose};
+ghost use Rattle.std.specs.Prelude.{◌≡◌, length};
+ghost use Rattle.ja_outside.specs.Flags.{IsPolled, IsFoundRaised};
 ghost use Rattle.sat_plain.specs.Ticks.{TicksAtMost, IsLater};
-ghost use Rattle.sat_plain.specs.Turns.{IsSearch, IsNext};
+ghost use Rattle.sat_plain.specs.Turns.{IsUnderWay, Continues};
 ghost use Rattle.sat_plain.specs.Outcomes.{IsTurned, IsTurnTicked, OnTurnStopped};
 
-use crate::learn::learn;
-use crate::pay::{Payment, pay};
+use crate::backtrack::learn;
+use crate::budget::{Payment, pay};
 use crate::propagate::{Progress, advance};
 use crate::query::Query;
 use ja_base::{Lits, Meter, Row};
@@ -36,20 +36,19 @@ pub(crate) fn turn<F: Flag>(
     meter: &mut Meter,
     flag: &mut F,
 ) -> Outcome
-    requires search { IsSearch query.old.trail.vars query.old.assumed query.old.trail.places clauses.old.list }
+    requires search { IsUnderWay query.old clauses.old }
     ensures vars { query.new.trail.vars ≡ query.old.trail.vars }
     ensures assumed { query.new.assumed ≡ query.old.assumed }
-    ensures next { IsNext query.old.trail.vars query.old.assumed query.old.trail.places query.old.lines clauses.old
-        query.new.trail.places query.new.lines clauses.new }
-    ensures turned { IsTurned query.old.trail.vars query.old.assumed query.old.trail.places query.new.trail.places
-        clauses.new.list result }
-    ensures ticked { IsTurnTicked meter.old meter.new (length query.old.lines) (length query.new.lines) result }
+    ensures next { Continues query.old clauses.old query.new clauses.new }
+    ensures turned { IsTurned query.old.trail.vars query.old.assumed query.old.trail.places
+        query.new.trail.places clauses.new.list result }
+    ensures ticked { IsTurnTicked meter.old meter.new
+        (length query.old.lines) (length query.new.lines) result }
     ensures later { IsLater meter.old meter.new }
     ensures bounded { TicksAtMost meter.old meter.new 1 }
-    ensures stopped { OnTurnStopped result (Rose (F.raised flag.old) (F.raised flag.new)) }
-    ensures may_stop { OnTurnStopped result (IsTrue (F.may_rise flag.old)) }
-    ensures flag_kept { F.may_rise flag.new ≡ F.may_rise flag.old }
-    ensures flag_later { F.raised flag.old ≤ F.raised flag.new }
+    ensures stopped { OnTurnStopped result
+        (IsFoundRaised F.may_rise F.raised flag.old flag.new) }
+    ensures flag { IsPolled F.may_rise F.raised flag.old flag.new }
 {
     match advance(&mut query.trail, clauses) {
         Progress::Moved => Outcome::GoesOn,

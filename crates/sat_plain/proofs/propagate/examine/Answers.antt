@@ -1,9 +1,10 @@
 use Rattle.std.proofs.Common.{◌≡◌, ℕ, Bool, List, [], get_or, Some, slice_get, refl, sym, subst, ◌∙◌, ap}
 use Rattle.std.proofs.lemmas.Option.{get_or_from_slice_get, same_Some}
-use Rattle.refute_check.specs.Lines.{found_of, open_lits}
+use Rattle.ja_base.specs.Trails.{open_lits, IsForcedBy}
+use Rattle.refute_check.specs.Lines.{found_of}
 use Rattle.refute_check.specs.declared.found.Found.{Found}
 use Rattle.sat_plain.specs.declared.place.Place.{Place}
-use Rattle.sat_plain.specs.Trails.{IsForcedBy, AreForced, lits_of}
+use Rattle.sat_plain.specs.Trails.{AreForced, lits_of}
 use Rattle.sat_plain.proofs.PlaceLemmas.{IsFoundForced, found_forces, forced_push, reason_of, all_false}
 use Rattle.sat_plain.proofs.propagate.examine.Goals as goal
 

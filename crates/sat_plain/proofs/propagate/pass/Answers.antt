@@ -1,6 +1,7 @@
 use Rattle.std.proofs.Common.{[], ◌∙◌, ap, arith}
 use Rattle.std.proofs.lemmas.List.{get_or_default}
-use Rattle.refute_check.specs.Lines.{found_of, open_lits}
+use Rattle.ja_base.specs.Trails.{open_lits}
+use Rattle.refute_check.specs.Lines.{found_of}
 use Rattle.sat_plain.proofs.propagate.pass.Goals as goal
 
 pub returns-else-len-before-clause-step : goal.returns-else-len-before-clause-step

@@ -15,4 +15,4 @@ returns-clause-accepted c = λ vars clauses trail walked h.
     c.from_vec.ensures ∙ c.reverse.ensures.items ∙ ap reverse (ap (λ (d : Derived). d.hints) c.self.view_is) in
     let P : List ℕ → Type 0 = λ v. IsSetOf v clause in
     ap (refusal vars clauses clause) hints
-    ∙ finished vars clauses trail clause old walked (subst P lits c.in_ok-clause.ensures) h
+    ∙ finished vars clauses trail clause old walked (subst P lits c.in_ok-clause.ensures.set) h

@@ -2,7 +2,8 @@ use Rattle.std.proofs.Common.{◌≡◌, ℕ, ◌≤◌, Bool, false, List, [], 
 use Rattle.std.proofs.lemmas.List.{map_push}
 use Rattle.std.specs.Option.{option_to_list}
 use Rattle.sat_plain.specs.declared.place.Place.{Place}
-use Rattle.sat_plain.specs.Trails.{IsTrail, lits_of}
+use Rattle.ja_base.specs.Trails.{IsTrail}
+use Rattle.sat_plain.specs.Trails.{lits_of}
 use Rattle.sat_plain.proofs.TrailLemmas.{popped}
 use Rattle.sat_plain.proofs.trail.Trail.pop.Goals as goal
 

@@ -2,7 +2,8 @@ use Rattle.std.proofs.Common.{◌≡◌, ℕ, ◌<◌, ◌≤◌, Bool, true, fa
 use Rattle.std.proofs.lemmas.List.{length_push}
 use Rattle.ja_base.specs.Literals.{bit, variable, negated}
 use Rattle.sat_plain.specs.declared.place.Place.{Place}
-use Rattle.sat_plain.specs.Trails.{Assigned, IsTrail, lits_of}
+use Rattle.ja_base.specs.Trails.{IsTrail}
+use Rattle.sat_plain.specs.Trails.{Assigned, lits_of}
 use Rattle.sat_plain.proofs.TrailLemmas.{pushed}
 use Rattle.sat_plain.proofs.PlaceLemmas.{lits_push, lits_length}
 use Rattle.sat_plain.proofs.trail.Trail.push.Goals as goal

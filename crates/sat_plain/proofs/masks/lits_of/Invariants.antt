@@ -1,5 +1,0 @@
-use Rattle.ja_base.specs.Clauses.{IsBelow}
-use Rattle.sat_plain.proofs.masks.lits_of.Given as goal
-
-abbrev pub invariant-loop-lit : goal.invariant-loop-lit
-invariant-loop-lit l = IsBelow 3 l.lits
