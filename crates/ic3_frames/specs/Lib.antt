@@ -1,0 +1,5 @@
+pub mod Levels
+pub mod Marks
+pub mod Soundness
+pub mod Sums
+pub mod Laws
