@@ -1,0 +1,5 @@
+mod PrefixLemmas
+mod BreakLemmas
+mod SetLemmas
+mod NamedLemmas
+mod StatusLemmas

@@ -1,0 +1,4 @@
+mod DepthLemmas
+mod CircuitLemmas
+mod RankLemmas
+mod PlanLemmas
