@@ -1,4 +1,5 @@
 pub mod Designs
 pub mod Words
 pub mod Lines
+pub mod Files
 pub mod Meaning

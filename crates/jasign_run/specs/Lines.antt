@@ -11,20 +11,24 @@ use Rattle.local_stim.specs.declared.refusal.StimRefusal.TheVariants as stimulus
 use Rattle.local_stim.specs.declared.verdict.Confirm.{Confirm}
 use Rattle.local_stim.specs.declared.verdict.Confirm.TheVariants.{Local, NotInitial, Constraint, NotBad, Assumed}
 use Rattle.jasign_run.specs.declared.outcome.Outcome.{Outcome}
-use Rattle.jasign_run.specs.declared.outcome.Outcome.TheVariants.{Replayed, DesignRefused, StimulusRefused, ExpectRefused, Usage, Outside, Memory}
+use Rattle.jasign_run.specs.declared.outcome.Outcome.TheVariants.{Replayed, Stopped}
+use Rattle.jasign_run.specs.declared.outcome.Stop.{Stop}
+use Rattle.jasign_run.specs.declared.outcome.Stop.TheVariants.{DesignRefused, StimulusRefused, ExpectRefused, Usage, Outside, Memory}
 
 -- words, and a number behind them or none
 abbrev pub Phrase : Type 0
 Phrase = List ℕ × Option ℕ
 
+-- a number in digits, if there is one
 abbrev pub number_text : Option ℕ → List ℕ
 number_text None = []
 number_text (Some n) = decimal n
 
+-- the words, and the number behind them
 abbrev pub phrase_text : Phrase → List ℕ
 phrase_text phrase = phrase.0 ++ number_text phrase.1
 
--- what a replay says first, and what it says then; the property and the number of steps are those of the stimulus
+-- what a replay says first; the property and the number of steps are those of the stimulus
 abbrev pub verdict_head : Confirm → ℕ → Phrase
 verdict_head Local prop = (codes "confirmed b", Some prop)
 verdict_head (NotInitial latch) prop = (codes "not confirmed: start latch ", Some latch)
@@ -32,6 +36,7 @@ verdict_head (Constraint step) prop = (codes "not confirmed: constraint at step 
 verdict_head NotBad prop = (codes "not confirmed: not bad", None)
 verdict_head (Assumed step broken) prop = (codes "not confirmed: b", Some broken)
 
+-- what it says then
 abbrev pub verdict_rest : Confirm → ℕ → Phrase
 verdict_rest Local steps = (codes " steps ", Some steps)
 verdict_rest (NotInitial latch) steps = ([], None)
@@ -39,6 +44,7 @@ verdict_rest (Constraint step) steps = ([], None)
 verdict_rest NotBad steps = ([], None)
 verdict_rest (Assumed step broken) steps = (codes " broke at step ", Some step)
 
+-- what it is that is too large
 abbrev pub large_words : Large → List ℕ
 large_words File = codes "2 too large file"
 large_words Vars = codes "2 too large vars"
@@ -74,24 +80,33 @@ expect_phrase (expect.Unknown line) = (codes "2 unknown line ", Some line)
 expect_phrase (expect.Twice line) = (codes "3 twice line ", Some line)
 expect_phrase expect.TooLarge = (codes "4 too large", None)
 
--- each line is two phrases
+-- why there is no result, in words
+abbrev pub stop_head : Stop → Phrase
+stop_head (DesignRefused refusal) = (codes "fault: design ", None)
+stop_head (StimulusRefused refusal) = (codes "fault: stimulus ", None)
+stop_head (ExpectRefused refusal) = (codes "fault: expect ", None)
+stop_head Usage = (codes "fault: usage", None)
+stop_head Outside = (codes "fault: outside", None)
+stop_head Memory = (codes "fault: memory", None)
+
+-- which rule a file breaks, if it was refused
+abbrev pub stop_rest : Stop → Phrase
+stop_rest (DesignRefused refusal) = design_phrase refusal
+stop_rest (StimulusRefused refusal) = stimulus_phrase refusal
+stop_rest (ExpectRefused refusal) = expect_phrase refusal
+stop_rest Usage = ([], None)
+stop_rest Outside = ([], None)
+stop_rest Memory = ([], None)
+
+-- each line is two phrases; this is the first
 abbrev pub head_phrase : Outcome → Phrase
 head_phrase (Replayed verdict prop steps) = verdict_head verdict prop
-head_phrase (DesignRefused refusal) = (codes "fault: design ", None)
-head_phrase (StimulusRefused refusal) = (codes "fault: stimulus ", None)
-head_phrase (ExpectRefused refusal) = (codes "fault: expect ", None)
-head_phrase Usage = (codes "fault: usage", None)
-head_phrase Outside = (codes "fault: outside", None)
-head_phrase Memory = (codes "fault: memory", None)
+head_phrase (Stopped stop) = stop_head stop
 
+-- and this the second
 abbrev pub rest_phrase : Outcome → Phrase
 rest_phrase (Replayed verdict prop steps) = verdict_rest verdict steps
-rest_phrase (DesignRefused refusal) = design_phrase refusal
-rest_phrase (StimulusRefused refusal) = stimulus_phrase refusal
-rest_phrase (ExpectRefused refusal) = expect_phrase refusal
-rest_phrase Usage = ([], None)
-rest_phrase Outside = ([], None)
-rest_phrase Memory = ([], None)
+rest_phrase (Stopped stop) = stop_rest stop
 
 -- the outcome's line, with its LF
 abbrev pub outcome_line : Outcome → List ℕ
@@ -105,11 +120,16 @@ verdict_status (Constraint step) = 1
 verdict_status NotBad = 1
 verdict_status (Assumed step prop) = 1
 
+-- the status of a run without a result
+abbrev pub stop_status : Stop → ℕ
+stop_status (DesignRefused refusal) = 3
+stop_status (StimulusRefused refusal) = 3
+stop_status (ExpectRefused refusal) = 3
+stop_status Usage = 4
+stop_status Outside = 5
+stop_status Memory = 6
+
+-- the outcome's status
 abbrev pub outcome_status : Outcome → ℕ
 outcome_status (Replayed verdict prop steps) = verdict_status verdict
-outcome_status (DesignRefused refusal) = 3
-outcome_status (StimulusRefused refusal) = 3
-outcome_status (ExpectRefused refusal) = 3
-outcome_status Usage = 4
-outcome_status Outside = 5
-outcome_status Memory = 6
+outcome_status (Stopped stop) = stop_status stop

@@ -1,5 +1,5 @@
-//! The one public call that the program makes. What a run means is in `specs/Meaning`, the lines it writes are in
-//! `specs/Lines`.
+//! The one public call that the program makes. What a run means is in `specs/Meaning`, what its files give in
+//! `specs/Files`, and the lines that it writes are in `specs/Lines`.
 #![tactic(auto)]
 
 mod confirm;
@@ -13,7 +13,7 @@ mod words;
 
 pub use confirm::confirm_run;
 pub use ending::memory_run;
-pub use outcome::Outcome;
+pub use outcome::{Outcome, Stop};
 pub use run::{Ran, jasign_run};
 
 #[cfg(test)]

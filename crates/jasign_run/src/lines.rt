@@ -1,9 +1,9 @@
 //! The lines that are written: a table of words for each kind of answer.
 
 ghost use Rattle.std.specs.Prelude.{◌≡◌, ℕ, ◌∷◌, [], ◌++◌, IfOk, OnOk};
-ghost use Rattle.jasign_run.specs.Lines.{phrase_text, verdict_head, verdict_rest, large_words, design_phrase, stimulus_phrase, expect_phrase, head_phrase, rest_phrase, outcome_line};
+ghost use Rattle.jasign_run.specs.Lines.{phrase_text, verdict_head, verdict_rest, large_words, design_phrase, stimulus_phrase, expect_phrase, stop_head, stop_rest, head_phrase, rest_phrase, outcome_line};
 
-use crate::outcome::Outcome;
+use crate::outcome::{Outcome, Stop};
 use aiger_lines::{Large, ReadRefusal};
 use expect_file::ExpectRefusal;
 use ja_base::Memory;
@@ -114,17 +114,36 @@ fn expect_phrase(refusal: ExpectRefusal) -> Phrase
     }
 }
 
+fn stop_head(stop: &Stop) -> Phrase
+    ensures { (result.words.now, result.number) ≡ stop_head stop.now }
+{
+    match stop {
+        Stop::DesignRefused(_) => plain(b"fault: design "),
+        Stop::StimulusRefused(_) => plain(b"fault: stimulus "),
+        Stop::ExpectRefused(_) => plain(b"fault: expect "),
+        Stop::Usage => plain(b"fault: usage"),
+        Stop::Outside => plain(b"fault: outside"),
+        Stop::Memory => plain(b"fault: memory"),
+    }
+}
+
+fn stop_rest(stop: &Stop) -> Phrase
+    ensures { (result.words.now, result.number) ≡ stop_rest stop.now }
+{
+    match stop {
+        Stop::DesignRefused(refusal) => design_phrase(refusal),
+        Stop::StimulusRefused(refusal) => stimulus_phrase(*refusal),
+        Stop::ExpectRefused(refusal) => expect_phrase(*refusal),
+        Stop::Usage | Stop::Outside | Stop::Memory => plain(b""),
+    }
+}
+
 fn head_phrase(outcome: &Outcome) -> Phrase
     ensures { (result.words.now, result.number) ≡ head_phrase outcome.now }
 {
     match outcome {
         Outcome::Replayed { verdict, prop, .. } => verdict_head(*verdict, *prop),
-        Outcome::DesignRefused(_) => plain(b"fault: design "),
-        Outcome::StimulusRefused(_) => plain(b"fault: stimulus "),
-        Outcome::ExpectRefused(_) => plain(b"fault: expect "),
-        Outcome::Usage => plain(b"fault: usage"),
-        Outcome::Outside => plain(b"fault: outside"),
-        Outcome::Memory => plain(b"fault: memory"),
+        Outcome::Stopped(stop) => stop_head(stop),
     }
 }
 
@@ -133,10 +152,7 @@ fn rest_phrase(outcome: &Outcome) -> Phrase
 {
     match outcome {
         Outcome::Replayed { verdict, steps, .. } => verdict_rest(*verdict, *steps),
-        Outcome::DesignRefused(refusal) => design_phrase(refusal),
-        Outcome::StimulusRefused(refusal) => stimulus_phrase(*refusal),
-        Outcome::ExpectRefused(refusal) => expect_phrase(*refusal),
-        Outcome::Usage | Outcome::Outside | Outcome::Memory => plain(b""),
+        Outcome::Stopped(stop) => stop_rest(stop),
     }
 }
 

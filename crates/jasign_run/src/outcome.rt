@@ -4,15 +4,9 @@ use aiger_lines::ReadRefusal;
 use expect_file::ExpectRefusal;
 use local_stim::{Confirm, StimRefusal};
 
-/// What a run comes to, before its line is written.
+/// Why there is no result.
 #[derive(Clone, Copy, Debug, PartialEq, Eq)]
-pub enum Outcome {
-    /// The stimulus of property `prop`, which has so many steps, was replayed.
-    Replayed {
-        verdict: Confirm,
-        prop: u32,
-        steps: u32,
-    },
+pub enum Stop {
     DesignRefused(ReadRefusal),
     StimulusRefused(StimRefusal),
     ExpectRefused(ExpectRefusal),
@@ -22,4 +16,16 @@ pub enum Outcome {
     Outside,
     /// Memory was wanting.
     Memory,
+}
+
+/// What a run comes to, before its line is written.
+#[derive(Clone, Copy, Debug, PartialEq, Eq)]
+pub enum Outcome {
+    /// The stimulus of property `prop`, which has so many steps, was replayed.
+    Replayed {
+        verdict: Confirm,
+        prop: u32,
+        steps: u32,
+    },
+    Stopped(Stop),
 }
