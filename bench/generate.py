@@ -114,16 +114,16 @@ def main(folder):
         "shuffled.stim": stimulus(50_000, 50_000, 1),
         "rows.aag": design(32, 32, 1_000),
         "rows.stim": stimulus(32, 32, 100_000),
-        "chain.aag": chain(100_000),
+        "chain.aag": chain(400_000),
         "chain.stim": stimulus(1, 0, 1),
-        "cycle.aag": chain(100_000, cycle=True),
+        "cycle.aag": chain(400_000, cycle=True),
         "cycle.stim": stimulus(1, 0, 1),
         "wide.aag": "aag 500000 0 0 0 0 1\n0\n",
         "wide.stim": stimulus(0, 0, 1),
     }
     for name, text in texts.items():
         (folder / name).write_text(text)
-    for name, text in zip(["ring.aag", "ring.clauses", "ring.proofs"], ring(300)):
+    for name, text in zip(["ring.aag", "ring.clauses", "ring.proofs"], ring(3_000)):
         (folder / name).write_text(text)
     clauses, log = refutations(100_000, 1_000_000)
     (folder / "clauses").write_text(clauses)
