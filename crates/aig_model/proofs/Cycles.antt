@@ -19,7 +19,9 @@ pub record Meets (xs : List ℕ) : Type 0 where
 find_place : (x : ℕ) (xs : List ℕ) → list_any (eqb x) xs ≡ true → (j : ℕ) × (j < length xs) × (get_or xs j 0 ≡ x)
 find_place x [] e = absurd (cc)
 find_place x (y ∷ xs) e =
-    ⊎_elim (λ here. (0, omega arith, sym (eqb-true x y here))) (λ later. let h = find_place x xs later in (suc h.0, omega (arith, h.1), h.2)) (or_cases (eqb x y) (list_any (eqb x) xs) e)
+    ⊎_elim (λ here. (0, omega arith, sym (eqb-true x y here)))
+    (λ later. let h = find_place x xs later in (suc h.0, omega (arith, h.1), h.2))
+    (or_cases (eqb x y) (list_any (eqb x) xs) e)
 
 none_alike : (x : ℕ) (xs : List ℕ) → list_any (eqb x) xs ≡ false → AllByRecursion (λ y. eqb x y ≡ false) xs
 none_alike x [] e = tt
@@ -30,7 +32,13 @@ unfolding IsDistinct
 distinct_or_meets [] = inl tt
 distinct_or_meets (x ∷ xs) =
     ⊎_elim
-    (λ found. let h = find_place x xs found in inr (record { one = 0; other = suc h.0; apart = omega arith; within = omega (arith, h.1); meets = sym h.2 }))
+    (λ found. let h = find_place x xs found in inr (record {
+      one = 0;
+      other = suc h.0;
+      apart = omega arith;
+      within = omega (arith, h.1);
+      meets = sym h.2;
+    }))
     (λ new.
     ⊎_elim (λ distinct. inl (IsDistinct-cons eqb x xs (none_alike x xs new) distinct))
     (λ m. inr (record { one = suc m.one; other = suc m.other; apart = omega arith; within = omega arith; meets = m.meets }))
@@ -42,12 +50,14 @@ pub meets_from_long : (xs : List ℕ) (n : ℕ) → n < length xs → ((j : ℕ)
 meets_from_long xs n long below =
     ⊎_elim
     (λ distinct.
-    let short = length-le_from_distinct_below xs n distinct (λ q found. let h = find_place q xs found in subst (λ k. k < n) h.2 (below h.0 h.1)) in
+    let short = length-le_from_distinct_below xs n distinct
+    (λ q found. let h = find_place q xs found in subst (λ k. k < n) h.2 (below h.0 h.1)) in
     absurd (omega arith))
     (λ m. m)
     (distinct_or_meets xs)
 
-each_more : (P : ℕ → Type 0) (v : ℕ) (xs : List ℕ) → P v → ((j : ℕ) → j < length xs → P (get_or xs j 0)) → (j : ℕ) → j < suc (length xs) → P (get_or (v ∷ xs) j 0)
+each_more : (P : ℕ → Type 0) (v : ℕ) (xs : List ℕ) → P v → ((j : ℕ) → j < length xs → P (get_or xs j 0)) → (j : ℕ)
+    → j < suc (length xs) → P (get_or (v ∷ xs) j 0)
 each_more P v xs p rest zero lt = p
 each_more P v xs p rest (suc j) lt = rest j (omega arith)
 
@@ -76,7 +86,15 @@ module _ (gates : List AndGate) (P : ℕ → Type 0) (next : (u : ℕ) → P u �
   reaches_from_endless n below v p =
       let long = long_path n v p in
       let m = meets_from_long (v ∷ long.path) n (omega (arith, long.long)) (λ j lt. below _ (long.each j lt)) in
-      record { path = long.path; is_path = long.is_path; one = m.one; other = m.other; apart = m.apart; within = m.within; meets = m.meets }
+      record {
+        path = long.path;
+        is_path = long.is_path;
+        one = m.one;
+        other = m.other;
+        apart = m.apart;
+        within = m.within;
+        meets = m.meets;
+      }
 
 module _ (gates : List AndGate) (P : ℕ → Type 0) (h : ℕ → ℕ) (falls : (u w : ℕ) → P u → Leads gates u w → P w × (h w < h u)) where
   below_first : (u : ℕ) (path : List ℕ) → P u → IsPath gates (u ∷ path) → (j : ℕ) → j < length path → h (get_or path j 0) < h u
@@ -87,12 +105,14 @@ module _ (gates : List AndGate) (P : ℕ → Type 0) (h : ℕ → ℕ) (falls : 
       let rest = below_first w path step.0 is.1 j (omega arith) in
       omega (arith, step.1)
 
-  goes_down : (u : ℕ) (path : List ℕ) → P u → IsPath gates (u ∷ path) → (i j : ℕ) → i < j → j < length (u ∷ path) → h (get_or (u ∷ path) j 0) < h (get_or (u ∷ path) i 0)
+  goes_down : (u : ℕ) (path : List ℕ) → P u → IsPath gates (u ∷ path) → (i j : ℕ) → i < j → j < length (u ∷ path)
+      → h (get_or (u ∷ path) j 0) < h (get_or (u ∷ path) i 0)
   goes_down u path p is zero zero lt within = absurd (omega arith)
   goes_down u path p is zero (suc j) lt within = below_first u path p is j (omega arith)
   goes_down u path p is (suc i) zero lt within = absurd (omega arith)
   goes_down u [] p is (suc i) (suc j) lt within = absurd (omega arith)
-  goes_down u (w ∷ path) p is (suc i) (suc j) lt within = goes_down w path (falls u w p is.0).0 is.1 i j (omega arith) (omega arith)
+  goes_down u (w ∷ path) p is (suc i) (suc j) lt within =
+      goes_down w path (falls u w p is.0).0 is.1 i j (omega arith) (omega arith)
 
   -- where each gate's right sides are lower, no cycle can be reached
   pub no_cycle : (v : ℕ) → P v → ReachesCycle gates v → ⊥

@@ -37,7 +37,8 @@ above_within false a zero le = omega arith
 above_within here a (suc h) le = omega arith
 
 -- a gate at place k lifts its variable above k
-pub height_at : (gs : List AndGate) (k : ℕ) (gate : AndGate) (u : ℕ) → slice_get gs k ≡ Some gate → gate_var gate ≡ u → k < height gs u
+pub height_at : (gs : List AndGate) (k : ℕ) (gate : AndGate) (u : ℕ) → slice_get gs k ≡ Some gate → gate_var gate ≡ u
+    → k < height gs u
 height_at [] k gate u at is = absurd (cc)
 height_at (g ∷ gs) zero gate u at is =
     let same : g ≡ gate = cc in
@@ -45,13 +46,15 @@ height_at (g ∷ gs) zero gate u at is =
 height_at (g ∷ gs) (suc k) gate u at is = above_later (eqb (gate_var g) u) k (height gs u) (height_at gs k gate u at is)
 
 -- a variable of no gate from a place on is no higher than that place
-pub height_before : (gs : List AndGate) (at u : ℕ) → ((j : ℕ) (later : AndGate) → at ≤ j → slice_get gs j ≡ Some later → u ≢ gate_var later) → height gs u ≤ at
+pub height_before : (gs : List AndGate) (at u : ℕ)
+    → ((j : ℕ) (later : AndGate) → at ≤ j → slice_get gs j ≡ Some later → u ≢ gate_var later) → height gs u ≤ at
 height_before [] at u before = omega arith
 height_before (g ∷ gs) zero u before =
     above_none (eqb (gate_var g) u) (height gs u) (ne_eqb _ _ (λ e. before 0 g (omega arith) refl (sym e)))
     (height_before gs zero u (λ j later le is. before (suc j) later (omega arith) is))
 height_before (g ∷ gs) (suc at) u before =
-    above_within (eqb (gate_var g) u) at (height gs u) (height_before gs at u (λ j later le is. before (suc j) later (omega arith) is))
+    above_within (eqb (gate_var g) u) at (height gs u)
+    (height_before gs at u (λ j later le is. before (suc j) later (omega arith) is))
 
 -- a gate of the list with this variable and these right sides
 pub record HasEntry (gs : List AndGate) (u : ℕ) (rights : ℕ × ℕ) : Type 0 where
@@ -75,10 +78,12 @@ tied u v e = sym (eqb-true u v (unsigned_ties u v ∙ e))
 
 pub found : (gs : List AndGate) (u : ℕ) (rights : ℕ × ℕ) → find nat_cmp u (map entry_of gs) ≡ Some rights → HasEntry gs u rights
 found [] u rights is = absurd (cc)
-found (g ∷ gs) u rights is = found_cases (eq_by_cmp nat_cmp u (gate_var g)) g gs u rights (tied u (gate_var g)) (found gs u rights) is
+found (g ∷ gs) u rights is = found_cases (eq_by_cmp nat_cmp u (gate_var g)) g gs u rights (tied u (gate_var g))
+    (found gs u rights) is
 
 -- the entry that the circuit has for a variable is that of a gate
-pub entry_has_gate : (n : Netlist) (u : ℕ) (rights : ℕ × ℕ) → finite_map.get (circuit n).gates u ≡ Some rights → HasEntry n.gates u rights
+pub entry_has_gate : (n : Netlist) (u : ℕ) (rights : ℕ × ℕ) → finite_map.get (circuit n).gates u ≡ Some rights
+    → HasEntry n.gates u rights
 entry_has_gate n u rights is = found n.gates u rights (sym (get-from_entries nat_cmp_total (map entry_of n.gates) u) ∙ is)
 
 pub acyclic_from_sound : (n : Netlist) → IsSound n → IsAcyclic (circuit n)

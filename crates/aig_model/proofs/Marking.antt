@@ -28,7 +28,8 @@ pub times_some : (xs : List ℕ) (v : ℕ) → list_any (λ u. eqb u v) xs ≡ t
 times_some [] v e = absurd (cc)
 times_some (x ∷ xs) v e =
     let c = times-cons x xs v in
-    ⊎_elim (λ here. let one : one_if (eqb x v) ≡ 1 = ap one_if here in omega (arith, c, one)) (λ later. let h = times_some xs v later in omega (arith, c, h))
+    ⊎_elim (λ here. let one : one_if (eqb x v) ≡ 1 = ap one_if here in omega (arith, c, one))
+    (λ later. let h = times_some xs v later in omega (arith, c, h))
     (or_cases (eqb x v) (list_any (λ u. eqb u v) xs) e)
 
 pub times_none : (xs : List ℕ) (v : ℕ) → list_any (λ u. eqb u v) xs ≡ false → times xs v ≡ 0
@@ -58,7 +59,8 @@ or_none true b e = refl
 or_none false b e = e
 
 -- the bits after one more mark
-marks_more : (row : List Bool) (xs : List ℕ) (u : ℕ) → u < length row → ((v : ℕ) → bit row v ≡ list_any (λ x. eqb x v) xs) → (v : ℕ)
+marks_more : (row : List Bool) (xs : List ℕ) (u : ℕ) → u < length row → ((v : ℕ) → bit row v ≡ list_any (λ x. eqb x v) xs)
+    → (v : ℕ)
     → bit (set row u true) v ≡ list_any (λ x. eqb x v) (xs ++ u ∷ [])
 marks_more row xs u within marks v =
     let whole = list_any-append (λ x. eqb x v) xs (u ∷ []) in
@@ -67,18 +69,22 @@ marks_more row xs u within marks v =
     let here : bit (set row u true) v ≡ true = ap (bit (set row u true)) e ∙ get_or-set_same row u true false within in
     here ∙ sym (whole ∙ or_right (list_any (λ x. eqb x v) xs) _ (or_left (eqb u v) false (eq-eqb u v (sym e)))))
     (λ ne.
-    let last = or_none (list_any (λ x. eqb x v) xs) _ (or_none false (eqb u v || false) (or_none (eqb u v) false refl ∙ ne_eqb u v (λ e. ne (sym e)))) in
+    let last = or_none (list_any (λ x. eqb x v) xs) _ (or_none false (eqb u v || false) (or_none (eqb u v) false refl
+    ∙ ne_eqb u v (λ e. ne (sym e)))) in
     get_or-set_other row u v true false ne ∙ marks v ∙ sym (whole ∙ last))
     (cases_eq v u)
 
 -- the first mark of u changes nothing: no other variable stands more often
-twice_old : (xs : List ℕ) (u : ℕ) (o : Option ℕ) → list_any (λ x. eqb x u) xs ≡ false → IsLeastOf (λ v. 2 ≤ times xs v) o → IsLeastOf (λ v. 2 ≤ times (xs ++ u ∷ []) v) o
+twice_old : (xs : List ℕ) (u : ℕ) (o : Option ℕ) → list_any (λ x. eqb x u) xs ≡ false → IsLeastOf (λ v. 2 ≤ times xs v) o
+    → IsLeastOf (λ v. 2 ≤ times (xs ++ u ∷ []) v) o
 twice_old xs u o new least =
     let none = times_none xs u new in
     let one = times_same xs u in
     least_same (λ v. 2 ≤ times xs v) (λ v. 2 ≤ times (xs ++ u ∷ []) v)
-    (λ v two. ⊎_elim (λ e. absurd (let same = ap (times xs) e in omega (arith, same))) (λ ne. let same = times_other xs u v ne in omega (arith, same)) (cases_eq v u))
-    (λ v two. ⊎_elim (λ e. absurd (let same = ap (times (xs ++ u ∷ [])) e in omega (arith, same))) (λ ne. let same = times_other xs u v ne in omega (arith, same)) (cases_eq v u))
+    (λ v two. ⊎_elim (λ e. absurd (let same = ap (times xs) e in omega (arith, same)))
+    (λ ne. let same = times_other xs u v ne in omega (arith, same)) (cases_eq v u))
+    (λ v two. ⊎_elim (λ e. absurd (let same = ap (times (xs ++ u ∷ [])) e in omega (arith, same)))
+    (λ ne. let same = times_other xs u v ne in omega (arith, same)) (cases_eq v u))
     o least
 
 twice_new : (xs : List ℕ) (u : ℕ) (o : Option ℕ) → list_any (λ x. eqb x u) xs ≡ true → IsLeastOf (λ v. 2 ≤ times xs v) o
@@ -110,11 +116,13 @@ adds_one old new u within row twice =
     by_mark vars m false e = twice_old vars u old.twice (sym (m.marks u) ∙ e) m.twice
 
 -- the whole of a list, at the end of a loop over it
-pub adds_all : {X : Type 0} (f : X → ℕ) (xs : List X) (i : ℕ) (a b : Defined) → length xs ≤ i → Adds a b (map f (take i xs)) → Adds a b (map f xs)
+pub adds_all : {X : Type 0} (f : X → ℕ) (xs : List X) (i : ℕ) (a b : Defined) → length xs ≤ i → Adds a b (map f (take i xs))
+    → Adds a b (map f xs)
 adds_all f xs i a b all adds = let e = take_all i xs all in rw e at adds
 
 -- the literal of an item that was read is in range with the others
-pub within_at : {X : Type 0} (f : X → ℕ) (xs : List X) (i : ℕ) (x : X) (n : ℕ) → AreWithin n (map f xs) → i < length xs → x ≡ get_or xs i x → variable (f x) < n
+pub within_at : {X : Type 0} (f : X → ℕ) (xs : List X) (i : ℕ) (x : X) (n : ℕ) → AreWithin n (map f xs) → i < length xs
+    → x ≡ get_or xs i x → variable (f x) < n
 within_at f xs i x n within lt read = within i (f x) (get_map f xs i x (slice_get_read xs (length xs) i x refl lt read))
 
 pub adds_none : (a : Defined) → Adds a a []
@@ -122,10 +130,14 @@ adds_none a = record { width = refl; marks = λ vars m. rw append-nil m }
 
 pub adds_then : (a b c : Defined) (xs ys : List ℕ) → Adds a b xs → Adds b c ys → Adds a c (xs ++ ys)
 adds_then a b c xs ys first second =
-    record { width = second.width ∙ first.width; marks = λ vars m. rw (← append_assoc) (second.marks (vars ++ xs) (first.marks vars m)) }
+    record {
+      width = second.width ∙ first.width;
+      marks = λ vars m. rw (← append_assoc) (second.marks (vars ++ xs) (first.marks vars m));
+    }
 
 -- one more item of a list, each of which has a variable
-pub adds_more : {X : Type 0} (f : X → ℕ) (xs : List X) (i : ℕ) (x : X) (v : ℕ) (a b c : Defined) → i < length xs → x ≡ get_or xs i x → v ≡ f x
+pub adds_more : {X : Type 0} (f : X → ℕ) (xs : List X) (i : ℕ) (x : X) (v : ℕ) (a b c : Defined) → i < length xs
+    → x ≡ get_or xs i x → v ≡ f x
     → Adds a b (map f (take i xs)) → Adds b c (v ∷ []) → Adds a c (map f (take (i + 1) xs))
 adds_more f xs i x v a b c within read var first second =
     let last : v ≡ f (get_or xs i x) = var ∙ ap f read in
@@ -133,9 +145,15 @@ adds_more f xs i x v a b c within read var first second =
 
 missing_kept : (row : List Bool) (lits : List ℕ) (l v : ℕ) → IsMissing row lits v → IsMissing row (lits ++ l ∷ []) v
 missing_kept row lits l v m =
-    record { at = m.at; used = rw map_push (get_left (map variable lits) (variable l ∷ []) m.at v m.used); above = m.above; unmarked = m.unmarked }
+    record {
+      at = m.at;
+      used = rw map_push (get_left (map variable lits) (variable l ∷ []) m.at v m.used);
+      above = m.above;
+      unmarked = m.unmarked;
+    }
 
-missing_cases : (row : List Bool) (lits : List ℕ) (l v : ℕ) → IsMissing row (lits ++ l ∷ []) v → IsMissing row lits v ⊎ (v ≡ variable l)
+missing_cases : (row : List Bool) (lits : List ℕ) (l v : ℕ) → IsMissing row (lits ++ l ∷ []) v
+    → IsMissing row lits v ⊎ (v ≡ variable l)
 missing_cases row lits l v m =
     ⊎_elim (λ old. inl (record { at = m.at; used = old; above = m.above; unmarked = m.unmarked })) (λ last. inr (sym last.1))
     (push_cases (map variable lits) (variable l) m.at v (rw map_push at m.used))
@@ -145,25 +163,36 @@ known_not_missing row lits v known m =
     ⊎_elim (λ zero. let above = m.above in omega (arith, zero)) (λ marked. false≢true (sym m.unmarked ∙ marked)) known
 
 -- a literal whose variable is the constant or marked is not missing
-pub checks_same : (row : List Bool) (o : Option ℕ) (l : ℕ) → (variable l ≡ 0) ⊎ (bit row (variable l) ≡ true) → Checks row o o (l ∷ [])
+pub checks_same : (row : List Bool) (o : Option ℕ) (l : ℕ) → (variable l ≡ 0) ⊎ (bit row (variable l) ≡ true)
+    → Checks row o o (l ∷ [])
 checks_same row o l known lits least =
     least_same (IsMissing row lits) (IsMissing row (lits ++ l ∷ [])) (missing_kept row lits l)
-    (λ v m. ⊎_elim (λ old. old) (λ e. absurd (known_not_missing row (lits ++ l ∷ []) (variable l) known (subst (IsMissing row (lits ++ l ∷ [])) e m))) (missing_cases row lits l v m))
+    (λ v m. ⊎_elim (λ old. old)
+    (λ e. absurd (known_not_missing row (lits ++ l ∷ []) (variable l) known (subst (IsMissing row (lits ++ l ∷ [])) e m)))
+    (missing_cases row lits l v m))
     o least
 
-pub checks_new : (row : List Bool) (o : Option ℕ) (l : ℕ) → 0 < variable l → bit row (variable l) ≡ false → Checks row o (Some (least_with o (variable l))) (l ∷ [])
+pub checks_new : (row : List Bool) (o : Option ℕ) (l : ℕ) → 0 < variable l → bit row (variable l) ≡ false
+    → Checks row o (Some (least_with o (variable l))) (l ∷ [])
 checks_new row o l above unmarked lits least =
     least_more (IsMissing row lits) (IsMissing row (lits ++ l ∷ [])) (variable l) (missing_kept row lits l)
-    (record { at = length (map variable lits); used = rw map_push (get_last (map variable lits) (variable l)); above = above; unmarked = unmarked })
+    (record {
+      at = length (map variable lits);
+      used = rw map_push (get_last (map variable lits) (variable l));
+      above = above;
+      unmarked = unmarked;
+    })
     (missing_cases row lits l) o least
 
 pub checks_none : (row : List Bool) (o : Option ℕ) → Checks row o o []
 checks_none row o lits least = rw append-nil least
 
-pub checks_then : (row : List Bool) (a b c : Option ℕ) (xs ys : List ℕ) → Checks row a b xs → Checks row b c ys → Checks row a c (xs ++ ys)
+pub checks_then : (row : List Bool) (a b c : Option ℕ) (xs ys : List ℕ) → Checks row a b xs → Checks row b c ys
+    → Checks row a c (xs ++ ys)
 checks_then row a b c xs ys first second lits least = rw (← append_assoc) (second (lits ++ xs) (first lits least))
 
-pub checks_more : {X : Type 0} (f : X → ℕ) (xs : List X) (i : ℕ) (x : X) (row : List Bool) (a b c : Option ℕ) → i < length xs → x ≡ get_or xs i x
+pub checks_more : {X : Type 0} (f : X → ℕ) (xs : List X) (i : ℕ) (x : X) (row : List Bool) (a b c : Option ℕ) → i < length xs
+    → x ≡ get_or xs i x
     → Checks row a b (map f (take i xs)) → Checks row b c (f x ∷ []) → Checks row a c (map f (take (i + 1) xs))
 checks_more f xs i x row a b c within read first second =
     let last : f x ≡ f (get_or xs i x) = ap f read in
@@ -175,16 +204,20 @@ checks_lit xs i x row a b c within read first second =
     let e : take i xs ++ x ∷ [] ≡ take (i + 1) xs = ap (λ y. take i xs ++ y ∷ []) read ∙ sym (take_more xs i x within) in
     subst (Checks row a c) e (checks_then row a b c (take i xs) (x ∷ []) first second)
 
-pub checks_all : {X : Type 0} (f : List X → List ℕ) (xs : List X) (i : ℕ) (row : List Bool) (a b : Option ℕ) → length xs ≤ i → Checks row a b (f (take i xs)) → Checks row a b (f xs)
+pub checks_all : {X : Type 0} (f : List X → List ℕ) (xs : List X) (i : ℕ) (row : List Bool) (a b : Option ℕ) → length xs ≤ i
+    → Checks row a b (f (take i xs)) → Checks row a b (f xs)
 checks_all f xs i row a b all checks = let e = take_all i xs all in subst (λ ys. Checks row a b (f ys)) e checks
 
 -- both right sides of one more gate
-pub checks_gate : (gates : List AndGate) (i : ℕ) (gate : AndGate) (row : List Bool) (a b c d : Option ℕ) → i < length gates → gate ≡ get_or gates i gate
-    → Checks row a b (rights (take i gates)) → Checks row b c (gate.rhs0 ∷ []) → Checks row c d (gate.rhs1 ∷ []) → Checks row a d (rights (take (i + 1) gates))
+pub checks_gate : (gates : List AndGate) (i : ℕ) (gate : AndGate) (row : List Bool) (a b c d : Option ℕ) → i < length gates
+    → gate ≡ get_or gates i gate
+    → Checks row a b (rights (take i gates)) → Checks row b c (gate.rhs0 ∷ []) → Checks row c d (gate.rhs1 ∷ [])
+    → Checks row a d (rights (take (i + 1) gates))
 checks_gate gates i gate row a b c d within read first second third =
     let both = checks_then row b c d (gate.rhs0 ∷ []) (gate.rhs1 ∷ []) second third in
     let more = checks_then row a b d (rights (take i gates)) (gate.rhs0 ∷ gate.rhs1 ∷ []) first both in
     let e : rights (take i gates) ++ gate.rhs0 ∷ gate.rhs1 ∷ [] ≡ rights (take (i + 1) gates) =
-    sym (ap rights (take_more gates i gate within) ∙ flat_map-append (λ (g : AndGate). g.rhs0 ∷ g.rhs1 ∷ []) (take i gates) (get_or gates i gate ∷ [])
+    sym (ap rights (take_more gates i gate within)
+    ∙ flat_map-append (λ (g : AndGate). g.rhs0 ∷ g.rhs1 ∷ []) (take i gates) (get_or gates i gate ∷ [])
     ∙ ap (λ (g : AndGate). rights (take i gates) ++ g.rhs0 ∷ g.rhs1 ∷ []) (sym read)) in
     rw (← e) more

@@ -11,13 +11,16 @@ use Rattle.aig_model.proofs.Places.{append_cases, push_cases, get_map}
 use Rattle.aig_model.proofs.Uses.{outside, rhs0s, rhs1s}
 
 pub AreNew-push : (vars : ℕ) (lits : List ℕ) (l : ℕ) → AreNew vars lits → IsNew vars l → AreNew vars (lits ++ l ∷ [])
-AreNew-push vars lits l new is at k at_k = ⊎_elim (λ old. new at k old) (λ last. subst (IsNew vars) last.1 is) (push_cases lits l at k at_k)
+AreNew-push vars lits l new is at k at_k =
+    ⊎_elim (λ old. new at k old) (λ last. subst (IsNew vars) last.1 is) (push_cases lits l at k at_k)
 
 pub AreUsable-push : (vars : ℕ) (lits : List ℕ) (l : ℕ) → AreUsable vars lits → l ≤ 2 * vars + 1 → AreUsable vars (lits ++ l ∷ [])
-AreUsable-push vars lits l usable is at k at_k = ⊎_elim (λ old. usable at k old) (λ last. subst (λ x. x ≤ 2 * vars + 1) last.1 is) (push_cases lits l at k at_k)
+AreUsable-push vars lits l usable is at k at_k =
+    ⊎_elim (λ old. usable at k old) (λ last. subst (λ x. x ≤ 2 * vars + 1) last.1 is) (push_cases lits l at k at_k)
 
 AreUsable-append : (vars : ℕ) (xs ys : List ℕ) → AreUsable vars xs → AreUsable vars ys → AreUsable vars (xs ++ ys)
-AreUsable-append vars xs ys left right at l is = ⊎_elim (λ in_xs. left at l in_xs) (λ in_ys. right in_ys.0 l in_ys.2) (append_cases xs ys at l is)
+AreUsable-append vars xs ys left right at l is =
+    ⊎_elim (λ in_xs. left at l in_xs) (λ in_ys. right in_ys.0 l in_ys.2) (append_cases xs ys at l is)
 
 -- lists that are in range one by one
 pub record AreListsInRange (p : Parts) : Type 0 where
@@ -43,7 +46,8 @@ in_range_from_lists p r =
           AreUsable-append p.vars (outside p ++ rhs0s p) (rhs1s p)
           (AreUsable-append p.vars (outside p) (rhs0s p)
           (AreUsable-append p.vars (nexts p.latches ++ p.outputs ++ p.bads) p.constraints
-          (AreUsable-append p.vars (nexts p.latches ++ p.outputs) p.bads (AreUsable-append p.vars (nexts p.latches) p.outputs r.nexts_are r.outputs) r.bads)
+          (AreUsable-append p.vars (nexts p.latches ++ p.outputs) p.bads
+          (AreUsable-append p.vars (nexts p.latches) p.outputs r.nexts_are r.outputs) r.bads)
           r.constraints)
           r.rhs0)
           r.rhs1;

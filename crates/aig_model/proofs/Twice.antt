@@ -47,11 +47,25 @@ places_from_times (x ∷ xs) v two =
     (λ here.
     let one : one_if (eqb x v) ≡ 1 = ap one_if here in
     let p = place_from_times xs v (omega (arith, c, one)) in
-    record { one = 0; other = suc p.at; apart = omega arith; within = omega (arith, p.within); one_is = eqb-true x v here; other_is = p.is })
+    record {
+      one = 0;
+      other = suc p.at;
+      apart = omega arith;
+      within = omega (arith, p.within);
+      one_is = eqb-true x v here;
+      other_is = p.is;
+    })
     (λ not.
     let none : one_if (eqb x v) ≡ 0 = ap one_if not in
     let p = places_from_times xs v (omega (arith, c, none)) in
-    record { one = suc p.one; other = suc p.other; apart = omega (arith, p.apart); within = omega (arith, p.within); one_is = p.one_is; other_is = p.other_is })
+    record {
+      one = suc p.one;
+      other = suc p.other;
+      apart = omega (arith, p.apart);
+      within = omega (arith, p.within);
+      one_is = p.one_is;
+      other_is = p.other_is;
+    })
     (cases_Bool (eqb x v))
 
 times_from_place : (xs : List ℕ) (v at : ℕ) → at < length xs → get_or xs at 0 ≡ v → 1 ≤ times xs v
@@ -65,7 +79,8 @@ times_from_place (x ∷ xs) v (suc at) within is =
     let some = times_from_place xs v at (omega arith) is in
     omega (arith, c, some)
 
-times_from_places : (xs : List ℕ) (v one other : ℕ) → one < other → other < length xs → get_or xs one 0 ≡ v → get_or xs other 0 ≡ v → 2 ≤ times xs v
+times_from_places : (xs : List ℕ) (v one other : ℕ) → one < other → other < length xs → get_or xs one 0 ≡ v
+    → get_or xs other 0 ≡ v → 2 ≤ times xs v
 times_from_places [] v one other apart within one_is other_is = absurd (omega arith)
 times_from_places (x ∷ xs) v one zero apart within one_is other_is = absurd (omega arith)
 times_from_places (x ∷ xs) v zero (suc other) apart within one_is other_is =
@@ -80,17 +95,22 @@ times_from_places (x ∷ xs) v (suc one) (suc other) apart within one_is other_i
 
 none_marked : (n v : ℕ) → bit (replicate n false) v ≡ false
 none_marked n v =
-    ⊎_elim (λ lt. get_or-replicate n v false false lt) (λ past. get_or_past (replicate n false) v false (let e = length-replicate n false in omega (arith, e))) (cases_lt v n)
+    ⊎_elim (λ lt. get_or-replicate n v false false lt)
+    (λ past. get_or_past (replicate n false) v false (let e = length-replicate n false in omega (arith, e))) (cases_lt v n)
 
 -- the table after the three lists of definitions
-pub table_from_adds : (p : Parts) (start a b c : Defined) → start.row ≡ replicate (p.vars + 1) false → start.twice ≡ None → Adds start a (map variable p.inputs)
+pub table_from_adds : (p : Parts) (start a b c : Defined) → start.row ≡ replicate (p.vars + 1) false → start.twice ≡ None
+    → Adds start a (map variable p.inputs)
     → Adds a b (map (λ (k : Latch). variable k.lit) p.latches) → Adds b c (map gate_var p.gates) → IsTableOf p c
 table_from_adds p start a b c row twice first second third =
     let xs = map variable p.inputs in
     let ys = map (λ (k : Latch). variable k.lit) p.latches in
     let zs = map gate_var p.gates in
     let all = adds_then start b c (xs ++ ys) zs (adds_then start a b xs ys first second) third in
-    let begin : Marks [] start = record { marks = λ v. rw row (none_marked (p.vars + 1) v); twice = rw twice (λ v two. omega (arith, two)) } in
+    let begin : Marks [] start = record {
+      marks = λ v. rw row (none_marked (p.vars + 1) v);
+      twice = rw twice (λ v two. omega (arith, two));
+    } in
     let m : Marks (definitions (netlist_of p)) c = all.marks [] begin in
     record {
       width = all.width ∙ rw row (length-replicate (p.vars + 1) false);
@@ -99,5 +119,6 @@ table_from_adds p start a b c row twice first second third =
           (λ v two.
           let q = places_from_times (definitions (netlist_of p)) v two in
           record { one = q.one; other = q.other; apart = q.apart; within = q.within; one_is = q.one_is; other_is = q.other_is })
-          (λ v t. times_from_places (definitions (netlist_of p)) v t.one t.other t.apart t.within t.one_is t.other_is) c.twice m.twice;
+          (λ v t. times_from_places (definitions (netlist_of p)) v t.one t.other t.apart t.within t.one_is t.other_is) c.twice
+          m.twice;
     }

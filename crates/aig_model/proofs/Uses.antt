@@ -43,19 +43,22 @@ rhs1s p = map (λ (g : AndGate). g.rhs1) p.gates
 Has-later : (x l : ℕ) (xs : List ℕ) → Has xs l → Has (x ∷ xs) l
 Has-later x l xs has = (suc has.0, has.1)
 
-right_cases : (gates : List AndGate) (at l : ℕ) → slice_get (rights gates) at ≡ Some l → Has (map (λ (g : AndGate). g.rhs0) gates) l ⊎ Has (map (λ (g : AndGate). g.rhs1) gates) l
+right_cases : (gates : List AndGate) (at l : ℕ) → slice_get (rights gates) at ≡ Some l
+    → Has (map (λ (g : AndGate). g.rhs0) gates) l ⊎ Has (map (λ (g : AndGate). g.rhs1) gates) l
 right_cases [] at l is = absurd (cc)
 right_cases (g ∷ gates) zero l is = inl (0, is)
 right_cases (g ∷ gates) (suc zero) l is = inr (0, is)
 right_cases (g ∷ gates) (suc (suc at)) l is =
     ⊎_elim (λ has. inl (suc has.0, has.1)) (λ has. inr (suc has.0, has.1)) (right_cases gates at l is)
 
-right0_there : (gates : List AndGate) (at l : ℕ) → slice_get (map (λ (g : AndGate). g.rhs0) gates) at ≡ Some l → Has (rights gates) l
+right0_there : (gates : List AndGate) (at l : ℕ) → slice_get (map (λ (g : AndGate). g.rhs0) gates) at ≡ Some l
+    → Has (rights gates) l
 right0_there [] at l is = absurd (cc)
 right0_there (g ∷ gates) zero l is = (0, is)
 right0_there (g ∷ gates) (suc at) l is = let h = right0_there gates at l is in (suc (suc h.0), h.1)
 
-right1_there : (gates : List AndGate) (at l : ℕ) → slice_get (map (λ (g : AndGate). g.rhs1) gates) at ≡ Some l → Has (rights gates) l
+right1_there : (gates : List AndGate) (at l : ℕ) → slice_get (map (λ (g : AndGate). g.rhs1) gates) at ≡ Some l
+    → Has (rights gates) l
 right1_there [] at l is = absurd (cc)
 right1_there (g ∷ gates) zero l is = (1, is)
 right1_there (g ∷ gates) (suc at) l is = let h = right1_there gates at l is in (suc (suc h.0), h.1)
@@ -65,7 +68,8 @@ used_there : (p : Parts) (l : ℕ) → Has (outside p ++ rights p.gates) l → H
 used_there p l has =
     ⊎_elim (λ out. Has-left (outside p ++ rhs0s p) (rhs1s p) l (Has-left (outside p) (rhs0s p) l out))
     (λ right.
-    ⊎_elim (λ r0. Has-left (outside p ++ rhs0s p) (rhs1s p) l (Has-right (outside p) (rhs0s p) l r0)) (λ r1. Has-right (outside p ++ rhs0s p) (rhs1s p) l r1)
+    ⊎_elim (λ r0. Has-left (outside p ++ rhs0s p) (rhs1s p) l (Has-right (outside p) (rhs0s p) l r0))
+    (λ r1. Has-right (outside p ++ rhs0s p) (rhs1s p) l r1)
     (right_cases p.gates right.0 l right.1))
     (Has-cases (outside p) (rights p.gates) l has)
 
@@ -73,7 +77,8 @@ used_back : (p : Parts) (l : ℕ) → Has (uses p) l → Has (outside p ++ right
 used_back p l has =
     ⊎_elim
     (λ more.
-    ⊎_elim (λ out. Has-left (outside p) (rights p.gates) l out) (λ r0. Has-right (outside p) (rights p.gates) l (right0_there p.gates r0.0 l r0.1))
+    ⊎_elim (λ out. Has-left (outside p) (rights p.gates) l out)
+    (λ r0. Has-right (outside p) (rights p.gates) l (right0_there p.gates r0.0 l r0.1))
     (Has-cases (outside p) (rhs0s p) l more))
     (λ r1. Has-right (outside p) (rights p.gates) l (right1_there p.gates r1.0 l r1.1))
     (Has-cases (outside p ++ rhs0s p) (rhs1s p) l has)
@@ -85,17 +90,20 @@ Has-mapped xs ys v there has =
     (h.0, get_map variable ys h.0 m.0 h.1 ∙ ap Some m.2)
 
 -- what is missing from the table is undefined, and what is undefined is missing
-pub undefined_from_missing : (p : Parts) (defined : Defined) (o : Option ℕ) → IsTableOf p defined → IsLeastOf (IsMissing defined.row (outside p ++ rights p.gates)) o
+pub undefined_from_missing : (p : Parts) (defined : Defined) (o : Option ℕ) → IsTableOf p defined
+    → IsLeastOf (IsMissing defined.row (outside p ++ rights p.gates)) o
     → IsLeastOf (IsUndefined p) o
 undefined_from_missing p defined o table least =
     least_same (IsMissing defined.row (outside p ++ rights p.gates)) (IsUndefined p)
     (λ v m. record {
-      used = Contains-from_Has (map variable (uses p)) v (Has-mapped (outside p ++ rights p.gates) (uses p) v (used_there p) (m.at, m.used));
+      used = Contains-from_Has (map variable (uses p)) v (Has-mapped (outside p ++ rights p.gates) (uses p) v (used_there p)
+          (m.at, m.used));
       above = m.above;
       undefined = sym (table.marks v) ∙ m.unmarked;
     })
     (λ v u.
-    let has = Has-mapped (uses p) (outside p ++ rights p.gates) v (used_back p) (Has-from_Contains (map variable (uses p)) v u.used) in
+    let has = Has-mapped (uses p) (outside p ++ rights p.gates) v (used_back p)
+    (Has-from_Contains (map variable (uses p)) v u.used) in
     record { at = has.0; used = has.1; above = u.above; unmarked = table.marks v ∙ u.undefined })
     o least
 
@@ -106,7 +114,8 @@ pub used_within : (p : Parts) → AreInRange p → (l : ℕ) → Has (uses p) l 
 used_within p range l has = let w = range.used has.0 l has.1 in omega (arith, w)
 
 -- where each literal of the list is used, their variables have a bit
-pub within_from_used : (p : Parts) (n : ℕ) (lits : List ℕ) → AreInRange p → n ≡ p.vars + 1 → ((l : ℕ) → Has lits l → Has (uses p) l) → AreWithin n lits
+pub within_from_used : (p : Parts) (n : ℕ) (lits : List ℕ) → AreInRange p → n ≡ p.vars + 1
+    → ((l : ℕ) → Has lits l → Has (uses p) l) → AreWithin n lits
 within_from_used p n lits range n_is there at l is = rw n_is (used_within p range l (there l (at, is)))
 
 pub outside_used : (p : Parts) (l : ℕ) → Has (outside p) l → Has (uses p) l
@@ -114,15 +123,18 @@ outside_used p l has = Has-left (outside p ++ rhs0s p) (rhs1s p) l (Has-left (ou
 
 pub next_used : (p : Parts) (l : ℕ) → Has (nexts p.latches) l → Has (uses p) l
 next_used p l has =
-    outside_used p l (Has-left (nexts p.latches ++ p.outputs ++ p.bads) p.constraints l (Has-left (nexts p.latches ++ p.outputs) p.bads l (Has-left (nexts p.latches) p.outputs l has)))
+    outside_used p l (Has-left (nexts p.latches ++ p.outputs ++ p.bads) p.constraints l
+    (Has-left (nexts p.latches ++ p.outputs) p.bads l (Has-left (nexts p.latches) p.outputs l has)))
 
 pub output_used : (p : Parts) (l : ℕ) → Has p.outputs l → Has (uses p) l
 output_used p l has =
-    outside_used p l (Has-left (nexts p.latches ++ p.outputs ++ p.bads) p.constraints l (Has-left (nexts p.latches ++ p.outputs) p.bads l (Has-right (nexts p.latches) p.outputs l has)))
+    outside_used p l (Has-left (nexts p.latches ++ p.outputs ++ p.bads) p.constraints l
+    (Has-left (nexts p.latches ++ p.outputs) p.bads l (Has-right (nexts p.latches) p.outputs l has)))
 
 pub bad_used : (p : Parts) (l : ℕ) → Has p.bads l → Has (uses p) l
 bad_used p l has =
-    outside_used p l (Has-left (nexts p.latches ++ p.outputs ++ p.bads) p.constraints l (Has-right (nexts p.latches ++ p.outputs) p.bads l has))
+    outside_used p l (Has-left (nexts p.latches ++ p.outputs ++ p.bads) p.constraints l
+    (Has-right (nexts p.latches ++ p.outputs) p.bads l has))
 
 pub constraint_used : (p : Parts) (l : ℕ) → Has p.constraints l → Has (uses p) l
 constraint_used p l has = outside_used p l (Has-right (nexts p.latches ++ p.outputs ++ p.bads) p.constraints l has)

@@ -16,13 +16,15 @@ use Rattle.aig_model.proofs.WalkTable.{reached_within}
 use Rattle.aig_model.proofs.Cycles.{reaches_from_endless, no_cycle}
 
 -- a gate at a place, with both right sides before it, is higher than they are
-lower : (order : List AndGate) (j : ℕ) (gate : AndGate) (u l w : ℕ) → slice_get order j ≡ Some gate → gate_var gate ≡ u → IsBefore order j l → variable l ≡ w → height order w < height order u
+lower : (order : List AndGate) (j : ℕ) (gate : AndGate) (u l w : ℕ) → slice_get order j ≡ Some gate → gate_var gate ≡ u
+    → IsBefore order j l → variable l ≡ w → height order w < height order u
 lower order j gate u l w is var before to =
     let here = height_at order j gate u is var in
     let there = height_before order j (variable l) before in
     rw (← to) (omega arith)
 
-ordered_falls : (gates order : List AndGate) → IsOrderOf gates order → (u w : ℕ) → Unit {0} → Leads gates u w → Unit {0} × (height order w < height order u)
+ordered_falls : (gates order : List AndGate) → IsOrderOf gates order → (u w : ℕ) → Unit {0} → Leads gates u w
+    → Unit {0} × (height order w < height order u)
 ordered_falls gates order is u w p l =
     let has = is.all l.at l.gate l.is in (
       tt,
@@ -53,23 +55,34 @@ module _ (gates : List AndGate) (tab : List Standing) (order : List AndGate) (do
 
   goes_on : (u : ℕ) → IsGone u → (w : ℕ) × Leads gates u w × IsGone w
   unfolding IsGone
-  goes_on u gone = ⊎_elim (λ has. absurd (let none = has.1 in cc)) (λ away. (away.to, away.leads, away.reached)) (done.path.all u gone)
+  goes_on u gone = ⊎_elim (λ has. absurd (let none = has.1 in cc)) (λ away. (away.to, away.leads, away.reached))
+      (done.path.all u gone)
 
   reaches : (v : ℕ) → IsGone v → ReachesCycle gates v
   unfolding IsGone
   reaches v gone = reaches_from_endless gates IsGone goes_on (length tab) (reached_within tab) v gone
 
   -- a gate that was not reached is in the order
-  in_order : (at : ℕ) (gate : AndGate) → slice_get gates at ≡ Some gate → is_reached (standing_of tab (gate_var gate)) ≡ false → HasGate order gate
+  in_order : (at : ℕ) (gate : AndGate) → slice_get gates at ≡ Some gate → is_reached (standing_of tab (gate_var gate)) ≡ false
+      → HasGate order gate
   in_order at gate is kept = done.part.all at gate is (ready_from _ (done.met at gate is) kept)
 
-  kept_falls : (u w : ℕ) → is_reached (standing_of tab u) ≡ false → Leads gates u w → (is_reached (standing_of tab w) ≡ false) × (height order w < height order u)
+  kept_falls : (u w : ℕ) → is_reached (standing_of tab u) ≡ false → Leads gates u w
+      → (is_reached (standing_of tab w) ≡ false) × (height order w < height order u)
   kept_falls u w kept l =
       let has = in_order l.at l.gate l.is (ap (λ x. is_reached (standing_of tab x)) l.from ∙ kept) in
       let p = done.part.placed has.0 l.gate has.1 in
       ⊎_elim
-      (λ to. (ap (λ x. is_reached (standing_of tab x)) (sym to) ∙ ap is_reached p.ready0, lower order has.0 l.gate u l.gate.rhs0 w has.1 l.from p.before0 to))
-      (λ to. (ap (λ x. is_reached (standing_of tab x)) (sym to) ∙ ap is_reached p.ready1, lower order has.0 l.gate u l.gate.rhs1 w has.1 l.from p.before1 to))
+      (λ to. (
+        ap (λ x. is_reached (standing_of tab x)) (sym to)
+            ∙ ap is_reached p.ready0,
+        lower order has.0 l.gate u l.gate.rhs0 w has.1 l.from p.before0 to,
+      ))
+      (λ to. (
+        ap (λ x. is_reached (standing_of tab x)) (sym to)
+            ∙ ap is_reached p.ready1,
+        lower order has.0 l.gate u l.gate.rhs1 w has.1 l.from p.before1 to,
+      ))
       l.to
 
   -- the least variable that was reached is the least from which a cycle can be reached
@@ -77,7 +90,8 @@ module _ (gates : List AndGate) (tab : List Standing) (order : List AndGate) (do
   unfolding IsGone
   least_cycle v least = (
     reaches v least.0,
-    λ j lt c. no_cycle gates (λ u. is_reached (standing_of tab u) ≡ false) (height order) kept_falls j (false_from_ne_true _ (λ gone. least.1 j lt gone)) c,
+    λ j lt c. no_cycle gates (λ u. is_reached (standing_of tab u) ≡ false) (height order) kept_falls j
+        (false_from_ne_true _ (λ gone. least.1 j lt gone)) c,
   )
 
   -- where nothing was reached, the order is whole
@@ -91,7 +105,8 @@ module _ (gates : List AndGate) (tab : List Standing) (order : List AndGate) (do
         before1 = λ at gate is. (done.part.placed at gate is).before1;
       }
 
-pub done_from : (gates : List AndGate) (n : ℕ) (walk : Walk) → IsWalk gates walk → walk.path.items ≡ [] → AreMet gates n walk → length gates ≤ n
+pub done_from : (gates : List AndGate) (n : ℕ) (walk : Walk) → IsWalk gates walk → walk.path.items ≡ [] → AreMet gates n walk
+    → length gates ≤ n
     → IsDone gates walk.standings.items walk.order.items
 done_from gates n walk w empty met all =
     record {
@@ -101,12 +116,14 @@ done_from gates n walk w empty met all =
     }
 
 -- one more gate does not wait
-pub met_more : (gates : List AndGate) (n v : ℕ) (old new : Walk) (gate : AndGate) → slice_get gates n ≡ Some gate → v ≡ gate_var gate → AreMet gates n old → StaysMet old new
+pub met_more : (gates : List AndGate) (n v : ℕ) (old new : Walk) (gate : AndGate) → slice_get gates n ≡ Some gate
+    → v ≡ gate_var gate → AreMet gates n old → StaysMet old new
     → is_waiting (standing_of new.standings.items v) ≡ false → AreMet gates (n + 1) new
 met_more gates n v old new gate is_n var met stays visited at other lt is =
     ⊎_elim
     (λ e.
     let same : other ≡ gate = same_Some other gate (sym is ∙ ap (slice_get gates) e ∙ is_n) in
-    ap (λ (g : AndGate). is_waiting (standing_of new.standings.items (gate_var g))) same ∙ ap (λ u. is_waiting (standing_of new.standings.items u)) (sym var) ∙ visited)
+    ap (λ (g : AndGate). is_waiting (standing_of new.standings.items (gate_var g))) same
+    ∙ ap (λ u. is_waiting (standing_of new.standings.items u)) (sym var) ∙ visited)
     (λ ne. stays (gate_var other) (met at other (omega arith) is))
     (cases_eq at n)

@@ -15,7 +15,8 @@ use Rattle.aig_model.proofs.WalkTable.{set_cases}
 
 all_ready : (n v : ℕ) → standing_of (replicate n Ready) v ≡ Ready
 all_ready n v =
-    ⊎_elim (λ lt. get_or-replicate n v Ready Ready lt) (λ past. get_or_past (replicate n Ready) v Ready (let e = length-replicate n Ready in omega (arith, e))) (cases_lt v n)
+    ⊎_elim (λ lt. get_or-replicate n v Ready Ready lt)
+    (λ past. get_or_past (replicate n Ready) v Ready (let e = length-replicate n Ready in omega (arith, e))) (cases_lt v n)
 
 pub waiting_none : (gates : List AndGate) (n : ℕ) → AreWaiting gates 0 (replicate n Ready)
 waiting_none gates n =
@@ -27,15 +28,18 @@ waiting_none gates n =
     }
 
 -- one more gate waits
-pub waiting_more : (gates : List AndGate) (n : ℕ) (tab : List Standing) (gate : AndGate) → AreWaiting gates n tab → slice_get gates n ≡ Some gate → gate_var gate < length tab
+pub waiting_more : (gates : List AndGate) (n : ℕ) (tab : List Standing) (gate : AndGate) → AreWaiting gates n tab
+    → slice_get gates n ≡ Some gate → gate_var gate < length tab
     → AreWaiting gates (n + 1) (set tab (gate_var gate) (Waiting n))
 waiting_more gates n tab gate w is_n within =
     let c : Standing → ℕ = λ s. cond (is_waiting s) 1 0 in
     let v : ℕ = gate_var gate in
     record {
       waiting = λ u at is.
-          ⊎_elim (λ h. let same : n ≡ at = cc in record { gate = gate; is = rw (← same) is_n; var = sym h.0 }) (λ h. w.waiting u at (sym h.1 ∙ is)) (set_cases tab v (Waiting n) u within);
-      none_reached = λ u. ⊎_elim (λ h. ap is_reached h.1) (λ h. ap is_reached h.1 ∙ w.none_reached u) (set_cases tab v (Waiting n) u within);
+          ⊎_elim (λ h. let same : n ≡ at = cc in record { gate = gate; is = rw (← same) is_n; var = sym h.0 })
+          (λ h. w.waiting u at (sym h.1 ∙ is)) (set_cases tab v (Waiting n) u within);
+      none_reached = λ u. ⊎_elim (λ h. ap is_reached h.1) (λ h. ap is_reached h.1
+          ∙ w.none_reached u) (set_cases tab v (Waiting n) u within);
       all = λ at other lt is.
           ⊎_elim (λ h. ap is_waiting h.1)
           (λ h.
@@ -49,12 +53,16 @@ waiting_more gates n tab gate w is_n within =
     }
 
 -- a walk that begins
-pub walk_starts : (gates : List AndGate) (walk : Walk) → AreGates (length walk.standings.items) gates → AreWaiting gates (length gates) walk.standings.items
+pub walk_starts : (gates : List AndGate) (walk : Walk) → AreGates (length walk.standings.items) gates
+    → AreWaiting gates (length gates) walk.standings.items
     → walk.path.items ≡ [] → walk.order.items ≡ [] → HasRoom gates walk → IsWalk gates walk
 walk_starts gates walk given w no_path no_order room =
     record {
       given = given;
-      table = record { waiting = w.waiting; reached = λ v at is. absurd (false≢true (sym (w.none_reached v) ∙ ap is_reached is)) };
+      table = record {
+        waiting = w.waiting;
+        reached = λ v at is. absurd (false≢true (sym (w.none_reached v) ∙ ap is_reached is));
+      };
       path = rw no_path (record {
         reached = λ i u is. absurd (cc);
         leads = λ i u x at_u at_x. absurd (cc);

@@ -12,7 +12,8 @@ use Rattle.aig_model.specs.Order.{standing_of, is_waiting, is_reached, IsWalkPat
 use Rattle.aig_model.proofs.Places.{get_last}
 use Rattle.aig_model.proofs.WalkTable.{Follows, waiting_within, set_cases, enter_table, enter_order, enter_path, enter_count, leave_table, leave_order, leave_path, leave_count, end_path}
 
-pub walk_enters : (gates : List AndGate) (old new : Walk) (v at : ℕ) → IsWalk gates old → Enters old new v at → standing_of old.standings.items v ≡ Waiting at
+pub walk_enters : (gates : List AndGate) (old new : Walk) (v at : ℕ) → IsWalk gates old
+    → Enters old new v at → standing_of old.standings.items v ≡ Waiting at
     → Follows gates old.path.items v → v < length old.standings.items → Steps gates old new
 walk_enters gates old new v at walk e waits follows within =
     let tab : List Standing = old.standings.items in
@@ -32,7 +33,8 @@ walk_enters gates old new v at walk e waits follows within =
         };
       };
       nearer = omega (arith, longer, fewer);
-      met = λ u not. rw e.standings (⊎_elim (λ h. ap is_waiting h.1) (λ h. ap is_waiting h.1 ∙ not) (set_cases tab v (Reached at) u within));
+      met = λ u not. rw e.standings (⊎_elim (λ h. ap is_waiting h.1) (λ h. ap is_waiting h.1
+          ∙ not) (set_cases tab v (Reached at) u within));
       table = rw (e.standings, length-set) refl;
     }
 
@@ -42,7 +44,8 @@ waits_not (Waiting at) r = absurd (cc)
 waits_not (Reached at) r = refl
 
 -- on the empty path
-pub walk_begins : (gates : List AndGate) (old new : Walk) (v at : ℕ) → IsWalk gates old → old.path.items ≡ [] → Enters old new v at → standing_of old.standings.items v ≡ Waiting at
+pub walk_begins : (gates : List AndGate) (old new : Walk) (v at : ℕ) → IsWalk gates old → old.path.items ≡ []
+    → Enters old new v at → standing_of old.standings.items v ≡ Waiting at
     → Steps gates old new × (is_waiting (standing_of new.standings.items v) ≡ false)
 walk_begins gates old new v at walk empty e waits =
     let within = waiting_within old.standings.items v at waits in (
@@ -50,8 +53,10 @@ walk_begins gates old new v at walk empty e waits =
       rw e.standings (ap is_waiting (get_or-set_same old.standings.items v (Reached at) Ready within)),
     )
 
-pub walk_leaves : (gates : List AndGate) (old new : Walk) (gate : AndGate) → IsWalk gates old → Leaves old new gate → HasGate gates gate
-    → standing_of old.standings.items (variable gate.rhs0) ≡ Ready → standing_of old.standings.items (variable gate.rhs1) ≡ Ready → Steps gates old new
+pub walk_leaves : (gates : List AndGate) (old new : Walk) (gate : AndGate) → IsWalk gates old → Leaves old new gate
+    → HasGate gates gate
+    → standing_of old.standings.items (variable gate.rhs0) ≡ Ready → standing_of old.standings.items (variable gate.rhs1) ≡ Ready
+    → Steps gates old new
 walk_leaves gates old new gate walk e has ready0 ready1 =
     let tab : List Standing = old.standings.items in
     let v : ℕ = gate_var gate in
@@ -67,7 +72,8 @@ walk_leaves gates old new gate walk e has ready0 ready1 =
         given = rw (e.standings, length-set) walk.given;
         table = rw e.standings (leave_table gates tab gate has.0 within has.1 gone walk.table);
         path = rw e.standings (leave_path gates tab gate has.0 within has.1 gone new.path.items on_path);
-        order = rw (e.standings, e.order) (leave_order gates tab gate has.0 within has.1 gone old.order.items walk.given.apart ready0 ready1 walk.order);
+        order = rw (e.standings, e.order)
+            (leave_order gates tab gate has.0 within has.1 gone old.order.items walk.given.apart ready0 ready1 walk.order);
         room = record {
           path = rw e.path_room walk.room.path;
           order = rw e.order_room walk.room.order;
@@ -75,7 +81,8 @@ walk_leaves gates old new gate walk e has ready0 ready1 =
         };
       };
       nearer = omega (arith, shorter, same);
-      met = λ u not. rw e.standings (⊎_elim (λ h. ap is_waiting h.1) (λ h. ap is_waiting h.1 ∙ not) (set_cases tab v Ready u within));
+      met = λ u not. rw e.standings (⊎_elim (λ h. ap is_waiting h.1) (λ h. ap is_waiting h.1
+          ∙ not) (set_cases tab v Ready u within));
       table = rw (e.standings, length-set) refl;
     }
 
@@ -102,10 +109,12 @@ walk_ends gates old new w walk e some follows gone =
     }
 
 -- the gate that was read at the place of the path's last variable
-pub last_gate_is : (gates : List AndGate) (path : List ℕ) (at v : ℕ) (gate : AndGate) → Defines gates at v → gate ≡ get_or gates at gate
+pub last_gate_is : (gates : List AndGate) (path : List ℕ) (at v : ℕ) (gate : AndGate) → Defines gates at v
+    → gate ≡ get_or gates at gate
     → slice_get path (length path - 1) ≡ Some v → IsLastGate gates path gate
 last_gate_is gates path at v gate d read last =
-    let is_at : slice_get gates at ≡ Some gate = slice_get_read gates (length gates) at gate refl (slice_get_within gates at d.gate d.is) read in
+    let is_at : slice_get gates at ≡ Some gate =
+    slice_get_read gates (length gates) at gate refl (slice_get_within gates at d.gate d.is) read in
     let same : gate_var gate ≡ v = ap gate_var (same_Some gate d.gate (sym is_at ∙ d.is)) ∙ d.var in
     record { has = (at, is_at); last = last ∙ ap Some (sym same) }
 
@@ -115,7 +124,8 @@ reached_at (Waiting at) r = absurd (cc)
 reached_at (Reached at) r = (at, refl)
 
 -- the path's last gate leads to its right sides
-follows_last : (gates : List AndGate) (path : List ℕ) (gate : AndGate) (tab : List Standing) (w : ℕ) → IsLastGate gates path gate → IsUnready tab gate w → Follows gates path w
+follows_last : (gates : List AndGate) (path : List ℕ) (gate : AndGate) (tab : List Standing) (w : ℕ) → IsLastGate gates path gate
+    → IsUnready tab gate w → Follows gates path w
 follows_last gates path gate tab w last un at u e is =
     let same : at ≡ length path - 1 = omega (arith, e) in
     record {
@@ -131,7 +141,8 @@ standing_cases Ready not = absurd (not refl)
 standing_cases (Waiting at) not = inl (at, refl)
 standing_cases (Reached at) not = inr (refl, refl)
 
-pub walk_goes_on : (gates : List AndGate) (old new : Walk) (gate : AndGate) (w : ℕ) → IsWalk gates old → 0 < length old.path.items → IsLastGate gates old.path.items gate
+pub walk_goes_on : (gates : List AndGate) (old new : Walk) (gate : AndGate) (w : ℕ) → IsWalk gates old → 0 < length old.path.items
+    → IsLastGate gates old.path.items gate
     → IsUnready old.standings.items gate w → ((at : ℕ) → standing_of old.standings.items w ≡ Waiting at → Enters old new w at)
     → (is_waiting (standing_of old.standings.items w) ≡ false → Ends old new) → Steps gates old new
 walk_goes_on gates old new gate w walk some last un waiting other =

@@ -19,7 +19,8 @@ SetCases tab v s u = ((u ≡ v) × (standing_of (set tab v s) u ≡ s)) ⊎ ((u 
 
 pub set_cases : (tab : List Standing) (v : ℕ) (s : Standing) (u : ℕ) → v < length tab → SetCases tab v s u
 set_cases tab v s u within =
-    ⊎_elim (λ e. inl (e, rw e (get_or-set_same tab v s Ready within))) (λ ne. inr (ne, get_or-set_other tab v u s Ready ne)) (cases_eq u v)
+    ⊎_elim (λ e. inl (e, rw e (get_or-set_same tab v s Ready within))) (λ ne. inr (ne, get_or-set_other tab v u s Ready ne))
+    (cases_eq u v)
 
 -- standings that differ are those of two variables
 pub not_same : (tab : List Standing) (u v : ℕ) → standing_of tab u ≢ standing_of tab v → u ≢ v
@@ -29,10 +30,12 @@ pub stays : (tab : List Standing) (v : ℕ) (s : Standing) (u : ℕ) → u ≢ v
 stays tab v s u ne = get_or-set_other tab v u s Ready ne
 
 -- what was reached is found among what is reached now
-reached_stays : (tab : List Standing) (v : ℕ) (s : Standing) (u : ℕ) → u ≢ v → is_reached (standing_of tab u) ≡ true → is_reached (standing_of (set tab v s) u) ≡ true
+reached_stays : (tab : List Standing) (v : ℕ) (s : Standing) (u : ℕ) → u ≢ v → is_reached (standing_of tab u) ≡ true
+    → is_reached (standing_of (set tab v s) u) ≡ true
 reached_stays tab v s u ne r = ap is_reached (stays tab v s u ne) ∙ r
 
-reached_before : (tab : List Standing) (v : ℕ) (s : Standing) (u : ℕ) → u ≢ v → is_reached (standing_of (set tab v s) u) ≡ true → is_reached (standing_of tab u) ≡ true
+reached_before : (tab : List Standing) (v : ℕ) (s : Standing) (u : ℕ) → u ≢ v → is_reached (standing_of (set tab v s) u) ≡ true
+    → is_reached (standing_of tab u) ≡ true
 reached_before tab v s u ne r = sym (ap is_reached (stays tab v s u ne)) ∙ r
 
 not_waiting : (s : Standing) (at : ℕ) → is_reached s ≡ true → s ≡ Waiting at → ⊥
@@ -43,16 +46,19 @@ not_ready s r w = false≢true (sym (ap is_reached w) ∙ r)
 
 -- past the table each variable is ready
 pub reached_within : (tab : List Standing) (v : ℕ) → is_reached (standing_of tab v) ≡ true → v < length tab
-reached_within tab v r = ⊎_elim (λ lt. lt) (λ past. absurd (false≢true (sym (ap is_reached (get_or_past tab v Ready past)) ∙ r))) (cases_lt v (length tab))
+reached_within tab v r = ⊎_elim (λ lt. lt) (λ past. absurd (false≢true (sym (ap is_reached (get_or_past tab v Ready past)) ∙ r)))
+    (cases_lt v (length tab))
 
 pub waiting_within : (tab : List Standing) (v at : ℕ) → standing_of tab v ≡ Waiting at → v < length tab
-waiting_within tab v at w = ⊎_elim (λ lt. lt) (λ past. absurd (let e = get_or_past tab v Ready past in cc)) (cases_lt v (length tab))
+waiting_within tab v at w =
+    ⊎_elim (λ lt. lt) (λ past. absurd (let e = get_or_past tab v Ready past in cc)) (cases_lt v (length tab))
 
 -- each gate of the path's last variable leads to v
 abbrev pub Follows : List AndGate → List ℕ → ℕ → Type 0
 Follows gates path v = (at u : ℕ) → at + 1 ≡ length path → slice_get path at ≡ Some u → Leads gates u v
 
-module _ (gates : List AndGate) (tab : List Standing) (v at : ℕ) (within : v < length tab) (waits : standing_of tab v ≡ Waiting at) where
+module _ (gates : List AndGate) (tab : List Standing) (v at : ℕ) (within : v < length tab)
+    (waits : standing_of tab v ≡ Waiting at) where
   -- a variable that is not v, since v waits
   ready_other : (u : ℕ) → standing_of tab u ≡ Ready → u ≢ v
   ready_other u ready e = absurd (let same = ap (standing_of tab) e in cc)
@@ -66,7 +72,8 @@ module _ (gates : List AndGate) (tab : List Standing) (v at : ℕ) (within : v <
   pub enter_table : IsTable gates tab → IsTable gates (set tab v (Reached at))
   enter_table table =
       record {
-        waiting = λ u k is. ⊎_elim (λ h. absurd (cc)) (λ h. table.waiting u k (sym h.1 ∙ is)) (set_cases tab v (Reached at) u within);
+        waiting = λ u k is. ⊎_elim (λ h. absurd (cc)) (λ h. table.waiting u k (sym h.1 ∙ is))
+            (set_cases tab v (Reached at) u within);
         reached = λ u k is.
             ⊎_elim
             (λ h.
@@ -80,7 +87,8 @@ module _ (gates : List AndGate) (tab : List Standing) (v at : ℕ) (within : v <
   enter_order order part =
       record {
         all = λ k gate is ready.
-            ⊎_elim (λ h. absurd (cc)) (λ h. part.all k gate is (sym h.1 ∙ ready)) (set_cases tab v (Reached at) (gate_var gate) within);
+            ⊎_elim (λ h. absurd (cc)) (λ h. part.all k gate is (sym h.1 ∙ ready))
+            (set_cases tab v (Reached at) (gate_var gate) within);
         placed = λ j gate is.
             let p = part.placed j gate is in
             record {
@@ -98,12 +106,14 @@ module _ (gates : List AndGate) (tab : List Standing) (v at : ℕ) (within : v <
   new_there : (path : List ℕ) → IsWalkPath gates tab path → Has path v → ⊥
   new_there path walk has = reached_other v (walk.reached has.0 v has.1) refl
 
-  pub enter_path : (path : List ℕ) → IsWalkPath gates tab path → Follows gates path v → IsWalkPath gates (set tab v (Reached at)) (path ++ v ∷ [])
+  pub enter_path : (path : List ℕ) → IsWalkPath gates tab path → Follows gates path v
+      → IsWalkPath gates (set tab v (Reached at)) (path ++ v ∷ [])
   enter_path path walk follows =
       record {
         reached = λ i u is.
             ⊎_elim (λ old. let r = walk.reached i u old in reached_stays tab v (Reached at) u (reached_other u r) r)
-            (λ last. ap is_reached (ap (standing_of (set tab v (Reached at))) (sym last.1) ∙ get_or-set_same tab v (Reached at) Ready within)) (push_cases path v i u is);
+            (λ last. ap is_reached (ap (standing_of (set tab v (Reached at))) (sym last.1)
+            ∙ get_or-set_same tab v (Reached at) Ready within)) (push_cases path v i u is);
         leads = λ i u w at_u at_w.
             ⊎_elim
             (λ old_w.
@@ -120,13 +130,15 @@ module _ (gates : List AndGate) (tab : List Standing) (v at : ℕ) (within : v <
               to = away.to;
               leads = away.leads;
               reached = reached_stays tab v (Reached at) away.to (reached_other away.to away.reached) away.reached;
-              off = λ has. ⊎_elim (λ old. away.off (has.0, old)) (λ last. reached_other away.to away.reached (sym last.1)) (push_cases path v has.0 away.to has.1);
+              off = λ has. ⊎_elim (λ old. away.off (has.0, old)) (λ last. reached_other away.to away.reached (sym last.1))
+                  (push_cases path v has.0 away.to has.1);
             }))
             (walk.all u (sym (ap is_reached h.1) ∙ r)))
             (set_cases tab v (Reached at) u within);
       }
 
-module _ (gates : List AndGate) (tab : List Standing) (gate : AndGate) (at : ℕ) (within : gate_var gate < length tab) (is_at : slice_get gates at ≡ Some gate)
+module _ (gates : List AndGate) (tab : List Standing) (gate : AndGate) (at : ℕ) (within : gate_var gate < length tab)
+    (is_at : slice_get gates at ≡ Some gate)
     (gone : is_reached (standing_of tab (gate_var gate)) ≡ true) where
   -- a variable that is ready is not the gate's, which was reached
   ready_apart : (u : ℕ) → standing_of tab u ≡ Ready → u ≢ gate_var gate
@@ -138,11 +150,14 @@ module _ (gates : List AndGate) (tab : List Standing) (gate : AndGate) (at : ℕ
   pub leave_table : IsTable gates tab → IsTable gates (set tab (gate_var gate) Ready)
   leave_table table =
       record {
-        waiting = λ u k is. ⊎_elim (λ h. absurd (cc)) (λ h. table.waiting u k (sym h.1 ∙ is)) (set_cases tab (gate_var gate) Ready u within);
-        reached = λ u k is. ⊎_elim (λ h. absurd (cc)) (λ h. table.reached u k (sym h.1 ∙ is)) (set_cases tab (gate_var gate) Ready u within);
+        waiting = λ u k is. ⊎_elim (λ h. absurd (cc)) (λ h. table.waiting u k (sym h.1 ∙ is))
+            (set_cases tab (gate_var gate) Ready u within);
+        reached = λ u k is. ⊎_elim (λ h. absurd (cc)) (λ h. table.reached u k (sym h.1 ∙ is))
+            (set_cases tab (gate_var gate) Ready u within);
       }
 
-  pub leave_path : (path : List ℕ) → IsWalkPath gates tab (path ++ gate_var gate ∷ []) → IsWalkPath gates (set tab (gate_var gate) Ready) path
+  pub leave_path : (path : List ℕ) → IsWalkPath gates tab (path ++ gate_var gate ∷ [])
+      → IsWalkPath gates (set tab (gate_var gate) Ready) path
   leave_path path walk =
       let v : ℕ = gate_var gate in
       let whole : List ℕ = path ++ v ∷ [] in
@@ -160,7 +175,8 @@ module _ (gates : List AndGate) (tab : List Standing) (gate : AndGate) (at : ℕ
             (λ away. inr (record {
               to = away.to;
               leads = away.leads;
-              reached = reached_stays tab v Ready away.to (λ e. away.off (length path, get_last path v ∙ ap Some (sym e))) away.reached;
+              reached = reached_stays tab v Ready away.to (λ e. away.off (length path, get_last path v ∙ ap Some (sym e)))
+                  away.reached;
               off = λ has. away.off (has.0, get_left path (v ∷ []) has.0 away.to has.1);
             }))
             (walk.all u (sym (ap is_reached h.1) ∙ r)))
@@ -168,21 +184,27 @@ module _ (gates : List AndGate) (tab : List Standing) (gate : AndGate) (at : ℕ
       }
 
   -- a gate of the same variable is the same gate
-  one_gate : AreApart (map gate_var gates) → (k : ℕ) (other : AndGate) → slice_get gates k ≡ Some other → gate_var other ≡ gate_var gate → other ≡ gate
+  one_gate : AreApart (map gate_var gates) → (k : ℕ) (other : AndGate) → slice_get gates k ≡ Some other
+      → gate_var other ≡ gate_var gate → other ≡ gate
   one_gate apart k other is e =
-      let same : k ≡ at = one_place (map gate_var gates) k at (gate_var other) (gate_var gate) apart (get_map gate_var gates k other is) (get_map gate_var gates at gate is_at) e in
+      let same : k ≡ at = one_place (map gate_var gates) k at (gate_var other) (gate_var gate) apart
+      (get_map gate_var gates k other is) (get_map gate_var gates at gate is_at) e in
       let moved : slice_get gates at ≡ Some other = rw (← same) is in
       cc
 
   -- what is ready comes before the gate
-  before_more : (order : List AndGate) (j l : ℕ) → standing_of tab (variable l) ≡ Ready → IsBefore order j l → IsBefore (order ++ gate ∷ []) j l
+  before_more : (order : List AndGate) (j l : ℕ) → standing_of tab (variable l) ≡ Ready → IsBefore order j l
+      → IsBefore (order ++ gate ∷ []) j l
   before_more order j l ready before k later le is =
-      ⊎_elim (λ old. before k later le old) (λ last. subst (λ (g : AndGate). variable l ≢ gate_var g) last.1 (ready_apart (variable l) ready)) (push_cases order gate k later is)
+      ⊎_elim (λ old. before k later le old)
+      (λ last. subst (λ (g : AndGate). variable l ≢ gate_var g) last.1 (ready_apart (variable l) ready))
+      (push_cases order gate k later is)
 
   none_after : (order : List AndGate) (l : ℕ) → IsBefore order (length order) l
   none_after order l k later le is = absurd (let w = slice_get_within order k later is in omega arith)
 
-  placed_more : (order : List AndGate) (j : ℕ) (other : AndGate) → IsPlaced gates tab order j other → IsPlaced gates (set tab (gate_var gate) Ready) (order ++ gate ∷ []) j other
+  placed_more : (order : List AndGate) (j : ℕ) (other : AndGate) → IsPlaced gates tab order j other
+      → IsPlaced gates (set tab (gate_var gate) Ready) (order ++ gate ∷ []) j other
   placed_more order j other p =
       record {
         from = p.from;
@@ -193,7 +215,8 @@ module _ (gates : List AndGate) (tab : List Standing) (gate : AndGate) (at : ℕ
         before1 = before_more order j other.rhs1 p.ready1 p.before1;
       }
 
-  pub leave_order : (order : List AndGate) → AreApart (map gate_var gates) → standing_of tab (variable gate.rhs0) ≡ Ready → standing_of tab (variable gate.rhs1) ≡ Ready
+  pub leave_order : (order : List AndGate) → AreApart (map gate_var gates) → standing_of tab (variable gate.rhs0) ≡ Ready
+      → standing_of tab (variable gate.rhs1) ≡ Ready
       → IsPart gates tab order → IsPart gates (set tab (gate_var gate) Ready) (order ++ gate ∷ [])
   leave_order order apart ready0 ready1 part =
       let v : ℕ = gate_var gate in
@@ -219,14 +242,20 @@ module _ (gates : List AndGate) (tab : List Standing) (gate : AndGate) (at : ℕ
       }
 
 -- the path ends before a variable that was reached: a cycle can be reached from all of it
-pub end_path : (gates : List AndGate) (tab : List Standing) (path : List ℕ) (w : ℕ) → Follows gates path w → is_reached (standing_of tab w) ≡ true
+pub end_path : (gates : List AndGate) (tab : List Standing) (path : List ℕ) (w : ℕ) → Follows gates path w
+    → is_reached (standing_of tab w) ≡ true
     → IsWalkPath gates tab path → IsWalkPath gates tab []
 end_path gates tab path w follows gone walk =
     record {
       reached = λ i u is. absurd (cc);
       leads = λ i u x at_u at_x. absurd (cc);
       once = λ i j lt within. absurd (omega arith);
-      all = λ u r. inr (⊎_elim (on_path u) (λ away. record { to = away.to; leads = away.leads; reached = away.reached; off = λ has. absurd (cc) }) (walk.all u r));
+      all = λ u r. inr (⊎_elim (on_path u) (λ away. record {
+        to = away.to;
+        leads = away.leads;
+        reached = away.reached;
+        off = λ has. absurd (cc);
+      }) (walk.all u r));
     }
   where
     on_path : (u : ℕ) → Has path u → LeadsAway gates tab [] u
@@ -237,7 +266,12 @@ end_path gates tab path w follows gone walk =
         let lies = slice_get_within path has.0 u has.1 in
         let next = slice_get-get_or path (has.0 + 1) 0 (omega arith) in
         let x : ℕ = get_or path (has.0 + 1) 0 in
-        record { to = x; leads = walk.leads has.0 u x has.1 next; reached = walk.reached (has.0 + 1) x next; off = λ h. absurd (cc) })
+        record {
+          to = x;
+          leads = walk.leads has.0 u x has.1 next;
+          reached = walk.reached (has.0 + 1) x next;
+          off = λ h. absurd (cc);
+        })
         (cases_eq (has.0 + 1) (length path))
 
 -- one less waits

@@ -48,7 +48,8 @@ pub record IsMissing (row : List Bool) (lits : List ℕ) (v : ℕ) : Type 0 wher
 
 -- the literals were looked at: the least variable that is missing among those before becomes that among all
 abbrev pub Checks : List Bool → Option ℕ → Option ℕ → List ℕ → Type 0
-Checks row old new more = (lits : List ℕ) → IsLeastOf (IsMissing row lits) old → IsLeastOf (IsMissing row (lits ++ more)) new
+Checks row old new more = (lits : List ℕ) → IsLeastOf (IsMissing row lits) old
+    → IsLeastOf (IsMissing row (lits ++ more)) new
 
 -- the right sides, gate by gate
 abbrev pub rights : List AndGate → List ℕ

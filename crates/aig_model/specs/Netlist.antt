@@ -48,7 +48,8 @@ gate_var g = variable g.lhs
 
 -- the variables of inputs, latches and gates, one for each
 abbrev pub definitions : Netlist → List ℕ
-definitions n = map variable n.inputs ++ map (λ (k : Latch). variable k.lit) n.latches ++ map gate_var n.gates
+definitions n = map variable n.inputs ++ map (λ (k : Latch). variable k.lit) n.latches
+    ++ map gate_var n.gates
 
 -- a literal that may be defined: not negated, a variable from 1 to M
 pub record IsNew (vars l : ℕ) : Type 0 where
@@ -67,7 +68,8 @@ AreApart xs = (i j : ℕ) → i < j → j < length xs → slice_index xs i ≢ s
 
 -- a literal's variable is that of no gate from this place on
 abbrev pub IsBefore : List AndGate → ℕ → ℕ → Type 0
-IsBefore gates at l = (j : ℕ) (later : AndGate) → at ≤ j → slice_get gates j ≡ Some later → variable l ≢ gate_var later
+IsBefore gates at l = (j : ℕ) (later : AndGate) → at ≤ j → slice_get gates j ≡ Some later
+    → variable l ≢ gate_var later
 
 pub record IsSoundLatch (n : Netlist) (latch : Latch) : Type 0 where
   pub lit : IsNew n.vars latch.lit
@@ -88,5 +90,6 @@ pub record IsSound (n : Netlist) : Type 0 where
   pub latches : (k : ℕ) (latch : Latch) → slice_get n.latches k ≡ Some latch → IsSoundLatch n latch
   pub gates : (k : ℕ) (gate : AndGate) → slice_get n.gates k ≡ Some gate → IsSoundGate n k gate
   pub bads : (k l : ℕ) → slice_get n.bads k ≡ Some l → IsKnown n.vars (definitions n) l
-  pub constraints : (k l : ℕ) → slice_get n.constraints k ≡ Some l → IsKnown n.vars (definitions n) l
+  pub constraints : (k l : ℕ) → slice_get n.constraints k ≡ Some l
+      → IsKnown n.vars (definitions n) l
   pub once : AreApart (definitions n)

@@ -17,8 +17,10 @@ pub record IsOrderOf (gates order : List AndGate) : Type 0 where
   pub from : (at : ℕ) (gate : AndGate) → slice_get order at ≡ Some gate → HasGate gates gate
   pub all : (at : ℕ) (gate : AndGate) → slice_get gates at ≡ Some gate → HasGate order gate
   pub apart : AreApart (map gate_var order)
-  pub before0 : (at : ℕ) (gate : AndGate) → slice_get order at ≡ Some gate → IsBefore order at gate.rhs0
-  pub before1 : (at : ℕ) (gate : AndGate) → slice_get order at ≡ Some gate → IsBefore order at gate.rhs1
+  pub before0 : (at : ℕ) (gate : AndGate) → slice_get order at ≡ Some gate
+      → IsBefore order at gate.rhs0
+  pub before1 : (at : ℕ) (gate : AndGate) → slice_get order at ≡ Some gate
+      → IsBefore order at gate.rhs1
 
 -- a gate's variables are below this number
 pub record IsWithin (n : ℕ) (gate : AndGate) : Type 0 where
@@ -56,14 +58,16 @@ abbrev pub Has : List ℕ → ℕ → Type 0
 Has path v = (at : ℕ) × (slice_get path at ≡ Some v)
 
 -- the variable leads to one that was reached before and is not on the path
-pub record LeadsAway (gates : List AndGate) (standings : List Standing) (path : List ℕ) (v : ℕ) : Type 0 where
+pub record LeadsAway (gates : List AndGate) (standings : List Standing) (path : List ℕ)
+    (v : ℕ) : Type 0 where
   pub to : ℕ
   pub leads : Leads gates v to
   pub reached : is_reached (standing_of standings to) ≡ true
   pub off : Has path to → ⊥
 
 -- a gate at its place in the order: it is ready, and its right sides are and come first
-pub record IsPlaced (gates : List AndGate) (standings : List Standing) (order : List AndGate) (at : ℕ) (gate : AndGate) : Type 0 where
+pub record IsPlaced (gates : List AndGate) (standings : List Standing) (order : List AndGate)
+    (at : ℕ) (gate : AndGate) : Type 0 where
   pub from : HasGate gates gate
   pub ready : standing_of standings (gate_var gate) ≡ Ready
   pub ready0 : standing_of standings (variable gate.rhs0) ≡ Ready
@@ -72,18 +76,25 @@ pub record IsPlaced (gates : List AndGate) (standings : List Standing) (order : 
   pub before1 : IsBefore order at gate.rhs1
 
 -- the order so far holds the gates that are ready, each once
-pub record IsPart (gates : List AndGate) (standings : List Standing) (order : List AndGate) : Type 0 where
-  pub all : (at : ℕ) (gate : AndGate) → slice_get gates at ≡ Some gate → standing_of standings (gate_var gate) ≡ Ready → HasGate order gate
-  pub placed : (at : ℕ) (gate : AndGate) → slice_get order at ≡ Some gate → IsPlaced gates standings order at gate
+pub record IsPart (gates : List AndGate) (standings : List Standing)
+    (order : List AndGate) : Type 0 where
+  pub all : (at : ℕ) (gate : AndGate) → slice_get gates at ≡ Some gate
+      → standing_of standings (gate_var gate) ≡ Ready → HasGate order gate
+  pub placed : (at : ℕ) (gate : AndGate) → slice_get order at ≡ Some gate
+      → IsPlaced gates standings order at gate
   pub apart : AreApart (map gate_var order)
 
 -- The path leads from each variable to the next. A variable that was reached is on the path, or leads to one that was
 -- reached and is not: a cycle can be reached from it.
-pub record IsWalkPath (gates : List AndGate) (standings : List Standing) (path : List ℕ) : Type 0 where
-  pub reached : (at v : ℕ) → slice_get path at ≡ Some v → is_reached (standing_of standings v) ≡ true
-  pub leads : (at u v : ℕ) → slice_get path at ≡ Some u → slice_get path (at + 1) ≡ Some v → Leads gates u v
+pub record IsWalkPath (gates : List AndGate) (standings : List Standing)
+    (path : List ℕ) : Type 0 where
+  pub reached : (at v : ℕ) → slice_get path at ≡ Some v
+      → is_reached (standing_of standings v) ≡ true
+  pub leads : (at u v : ℕ) → slice_get path at ≡ Some u → slice_get path (at + 1) ≡ Some v
+      → Leads gates u v
   pub once : AreApart path
-  pub all : (v : ℕ) → is_reached (standing_of standings v) ≡ true → Has path v ⊎ LeadsAway gates standings path v
+  pub all : (v : ℕ) → is_reached (standing_of standings v) ≡ true
+      → Has path v ⊎ LeadsAway gates standings path v
 
 -- what the table says of a variable that is not ready
 pub record IsTable (gates : List AndGate) (standings : List Standing) : Type 0 where
@@ -94,14 +105,16 @@ pub record IsTable (gates : List AndGate) (standings : List Standing) : Type 0 w
 pub record AreWaiting (gates : List AndGate) (n : ℕ) (standings : List Standing) : Type 0 where
   pub waiting : (v at : ℕ) → standing_of standings v ≡ Waiting at → Defines gates at v
   pub none_reached : (v : ℕ) → is_reached (standing_of standings v) ≡ false
-  pub all : (at : ℕ) (gate : AndGate) → at < n → slice_get gates at ≡ Some gate → is_waiting (standing_of standings (gate_var gate)) ≡ true
+  pub all : (at : ℕ) (gate : AndGate) → at < n → slice_get gates at ≡ Some gate
+      → is_waiting (standing_of standings (gate_var gate)) ≡ true
   pub few : count_by is_waiting standings ≤ n
 
 -- there is room for each gate
 pub record HasRoom (gates : List AndGate) (walk : Walk) : Type 0 where
   pub path : length gates ≤ vec_capacity walk.path
   pub order : length gates ≤ vec_capacity walk.order
-  pub all : count_by is_waiting walk.standings.items + length walk.path.items + length walk.order.items ≤ length gates
+  pub all : count_by is_waiting walk.standings.items + length walk.path.items
+      + length walk.order.items ≤ length gates
 
 pub record IsWalk (gates : List AndGate) (walk : Walk) : Type 0 where
   pub given : AreGates (length walk.standings.items) gates
@@ -116,11 +129,13 @@ steps_left walk = 2 * count_by is_waiting walk.standings.items + length walk.pat
 
 -- what did not wait does not wait now
 abbrev pub StaysMet : Walk → Walk → Type 0
-StaysMet old new = (v : ℕ) → is_waiting (standing_of old.standings.items v) ≡ false → is_waiting (standing_of new.standings.items v) ≡ false
+StaysMet old new = (v : ℕ) → is_waiting (standing_of old.standings.items v) ≡ false
+    → is_waiting (standing_of new.standings.items v) ≡ false
 
 -- none of the first n gates waits
 abbrev pub AreMet : List AndGate → ℕ → Walk → Type 0
-AreMet gates n walk = (at : ℕ) (gate : AndGate) → at < n → slice_get gates at ≡ Some gate → is_waiting (standing_of walk.standings.items (gate_var gate)) ≡ false
+AreMet gates n walk = (at : ℕ) (gate : AndGate) → at < n → slice_get gates at ≡ Some gate
+    → is_waiting (standing_of walk.standings.items (gate_var gate)) ≡ false
 
 -- a step of the walk: what it keeps, and that it comes nearer to the end
 pub record Steps (gates : List AndGate) (old new : Walk) : Type 0 where

@@ -13,7 +13,14 @@ use Rattle.aig_model.specs.Netlist.{Netlist, IsNew, gate_var, definitions}
 
 -- the lists but the outputs, with the gates in the order of the file
 abbrev pub netlist_of : Parts → Netlist
-netlist_of p = record { vars = p.vars; inputs = p.inputs; latches = p.latches; gates = p.gates; bads = p.bads; constraints = p.constraints }
+netlist_of p = record {
+  vars = p.vars;
+  inputs = p.inputs;
+  latches = p.latches;
+  gates = p.gates;
+  bads = p.bads;
+  constraints = p.constraints;
+}
 
 -- the lists with their gates in another order
 abbrev pub with_gates : Netlist → List AndGate → Netlist
@@ -28,7 +35,8 @@ uses p = map (λ (k : Latch). k.next) p.latches ++ p.outputs ++ p.bads ++ p.cons
 pub record AreInRange (p : Parts) : Type 0 where
   pub small : p.vars < 2 ^ 31
   pub inputs : (k l : ℕ) → slice_get p.inputs k ≡ Some l → IsNew p.vars l
-  pub latches : (k : ℕ) (latch : Latch) → slice_get p.latches k ≡ Some latch → IsNew p.vars latch.lit
+  pub latches : (k : ℕ) (latch : Latch) → slice_get p.latches k ≡ Some latch
+      → IsNew p.vars latch.lit
   pub gates : (k : ℕ) (gate : AndGate) → slice_get p.gates k ≡ Some gate → IsNew p.vars gate.lhs
   pub used : (k l : ℕ) → slice_get (uses p) k ≡ Some l → l ≤ 2 * p.vars + 1
 

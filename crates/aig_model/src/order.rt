@@ -57,7 +57,8 @@ fn waiting_gates(alloc: Global, vars: u32, gates: &[AndGate]) -> Result<Vec<Stan
     requires short { length gates.now < 2 ^ 32 }
     requires given { AreGates (vars + 1) gates.now }
     ensures length { IfOk result (λ standings. length standings.items ≡ vars + 1) }
-    ensures waiting { IfOk result (λ standings. AreWaiting gates.now (length gates.now) standings.items) }
+    ensures waiting { IfOk result
+        (λ standings. AreWaiting gates.now (length gates.now) standings.items) }
 {
     let mut standings = vec![in alloc; Standing::Ready; vars as usize + 1]?;
     for (at, gate) in gates.iter().enumerate() {
@@ -119,8 +120,11 @@ impl Walk {
         requires within { var < length self.old.standings.items }
         requires room { is_waiting (standing_of self.old.standings.items var) ≡ true
             → length self.old.path.items < vec_capacity self.old.path }
-        ensures waiting { (at : ℕ) → standing_of self.old.standings.items var ≡ Standing.Waiting at → Enters self.old self.new var at }
-        ensures other { is_waiting (standing_of self.old.standings.items var) ≡ false → Ends self.old self.new }
+        ensures waiting { (at : ℕ)
+            → standing_of self.old.standings.items var ≡ Standing.Waiting at
+            → Enters self.old self.new var at }
+        ensures other { is_waiting (standing_of self.old.standings.items var) ≡ false
+            → Ends self.old self.new }
     {
         match self.standing(var) {
             Standing::Waiting(at) => self.enter(var, at),
@@ -195,7 +199,8 @@ impl Walk {
     /// The least variable that was reached and is not ready.
     fn first_reached(&self) -> Option<Var>
         requires { length self.now.standings.items < 2 ^ 32 }
-        ensures { IsLeastOf (λ v. is_reached (standing_of self.now.standings.items v) ≡ true) result }
+        ensures { IsLeastOf (λ v. is_reached (standing_of self.now.standings.items v) ≡ true)
+            result }
     {
         for (var, standing) in self.standings.iter().enumerate() {
             if let Standing::Reached(_) = standing {

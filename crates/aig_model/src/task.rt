@@ -35,7 +35,8 @@ impl Model for Task {
       expected = (arc_value t.shared).expect;
     } };
 
-    ghost invariant = { λ t. length (arc_value t.shared).expect ≡ length (arc_value t.shared).design.bads };
+    ghost invariant = { λ t.
+        length (arc_value t.shared).expect ≡ length (arc_value t.shared).design.bads };
 }
 
 impl Task {

@@ -98,7 +98,21 @@ sections_read size h bytes p tail e =
     bind_then (repeated (literal_at v size) h.bads o.1) (Four i l o) y e3 (λ b bads e4.
     bind_then (repeated (literal_at v size) h.constraints b.1) (Five i l o b) y e4 (λ c constraints e5.
     bind_then (repeated (gate_at v size) h.gates (record { seen = l.1.seen; rest = c.1 })) (Six i l o b c) y e5 (λ g gates e6.
-    record { i = i; l = l; o = o; b = b; c = c; g = g; inputs = inputs; latches = latches; outputs = outputs; bads = bads; constraints = constraints; gates = gates; whole = e6 }))))))
+    record {
+      i = i;
+      l = l;
+      o = o;
+      b = b;
+      c = c;
+      g = g;
+      inputs = inputs;
+      latches = latches;
+      outputs = outputs;
+      bads = bads;
+      constraints = constraints;
+      gates = gates;
+      whole = e6;
+    }))))))
 
 -- variables of inputs, latches and gates that are fresh one after the other are fresh together
 fresh_together : (seen seen1 seen2 : List Bool) (us vs ws : List ℕ) → AreFresh seen us → seen1 ≡ marked seen us
@@ -135,7 +149,15 @@ sections_spelled size h bytes p tail r =
       bads = bads.0;
       constraints = constraints.0;
       gates = gates.0;
-      counts = record { vars = refl; inputs = inputs.3; latches = latches.3; outputs = outputs.1; bad_lines = bads.1; constraints = constraints.1; gates = gates.3 };
+      counts = record {
+        vars = refl;
+        inputs = inputs.3;
+        latches = latches.3;
+        outputs = outputs.1;
+        bad_lines = bads.1;
+        constraints = constraints.1;
+        gates = gates.3;
+      };
       properties = refl;
       fresh = fresh_together (replicate (v + 1) false) r.i.1.seen r.l.1.seen (map variable r.i.0)
           (map (λ (k : Latch). variable k.lit) r.l.0) (map gate_var r.g.0) inputs.1 inputs.2 latches.1 latches.2 gates.1;
@@ -230,11 +252,14 @@ chain_parts a x b c d e f g t p q r e1 e2 e3 e4 e5 =
     ∙ ap (λ k. (x ++ c ++ e ++ g) ++ k) e5 ∙ sym (append_assoc (x ++ c ++ e ++ g) p q)
 
 file_text : (bytes : List ℕ) (f : File) (t : TakesFile bytes f)
-    → bytes ≡ t.header.text ++ t.sections.inputs.text ++ t.sections.latches.text ++ t.sections.outputs.text ++ t.sections.bads.text ++ t.sections.constraints.text ++ t.sections.gates.text ++ f.tail
+    → bytes ≡ t.header.text ++ t.sections.inputs.text ++ t.sections.latches.text ++ t.sections.outputs.text
+    ++ t.sections.bads.text ++ t.sections.constraints.text ++ t.sections.gates.text ++ f.tail
 file_text bytes f t =
     let s = t.sections in
     let four = t.header.text ++ s.inputs.text ++ s.latches.text ++ s.outputs.text in
-    let front : bytes ≡ four ++ s.bads.text ++ s.rest4 = chain_parts bytes t.header.text t.rest s.inputs.text s.rest1 s.latches.text s.rest2 s.outputs.text s.rest3 s.bads.text s.rest4 s.rest4 t.header.parts s.inputs.parts s.latches.parts s.outputs.parts s.bads.parts in
+    let front : bytes ≡ four ++ s.bads.text
+    ++ s.rest4 = chain_parts bytes t.header.text t.rest s.inputs.text s.rest1 s.latches.text s.rest2 s.outputs.text s.rest3
+    s.bads.text s.rest4 s.rest4 t.header.parts s.inputs.parts s.latches.parts s.outputs.parts s.bads.parts in
     let five = four ++ s.bads.text in
     front ∙ ap (λ (k : List ℕ). five ++ k) s.constraints.parts ∙ sym (append_assoc five s.constraints.text s.rest5)
     ∙ ap (λ (k : List ℕ). (five ++ s.constraints.text) ++ k) s.gates.parts
@@ -249,9 +274,27 @@ file_spells bytes f e design tail =
     record {
       head = f.head;
       bads = s.bad_lits;
-      sections = record { header = t.header.text; inputs = s.inputs.text; latches = s.latches.text; outputs = s.outputs.text; bads = s.bads.text; constraints = s.constraints.text; gates = s.gates.text; tail = f.tail };
+      sections = record {
+        header = t.header.text;
+        inputs = s.inputs.text;
+        latches = s.latches.text;
+        outputs = s.outputs.text;
+        bads = s.bads.text;
+        constraints = s.constraints.text;
+        gates = s.gates.text;
+        tail = f.tail;
+      };
       bytes_are = file_text bytes f t;
-      spelled = record { header = t.header.form; inputs = s.inputs.lines; latches = s.latches.lines; outputs = s.outputs.lines; bad_lines = s.bads.lines; constraints = s.constraints.lines; gates = s.gates.lines; tail = tail };
+      spelled = record {
+        header = t.header.form;
+        inputs = s.inputs.lines;
+        latches = s.latches.lines;
+        outputs = s.outputs.lines;
+        bad_lines = s.bads.lines;
+        constraints = s.constraints.lines;
+        gates = s.gates.lines;
+        tail = tail;
+      };
       counts = s.counts;
       properties = s.properties;
       file = t.small;

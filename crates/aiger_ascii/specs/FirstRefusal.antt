@@ -31,7 +31,8 @@ IsBuildRefusal p r = (b : BuildRefusal) × IsRefusal p b × Becomes b r
 -- that they make a design, with a line behind them.
 abbrev pub IsFirstRefusal : List ℕ → ReadRefusal → Type 0
 IsFirstRefusal bytes r = MatchResult (file_at bytes)
-    (λ f. IsBuildRefusal f.parts r ⊎ (MakesDesign f.parts × IsTailRefusal (length bytes) f r)) (λ e. r ≡ e)
+    (λ f. IsBuildRefusal f.parts r ⊎ (MakesDesign f.parts × IsTailRefusal (length bytes) f r))
+    (λ e. r ≡ e)
 
 -- No bytes are neither a design in the ASCII form nor have a first refusal. Which of the two they are is not decided here: for a
 -- cycle of gates that takes a search.

@@ -35,7 +35,8 @@ pub record Sections : Type 0 where
   pub tail : List ℕ
 
 abbrev pub text_of : Sections → List ℕ
-text_of s = s.header ++ s.inputs ++ s.latches ++ s.outputs ++ s.bads ++ s.constraints ++ s.gates ++ s.tail
+text_of s = s.header ++ s.inputs ++ s.latches ++ s.outputs ++ s.bads ++ s.constraints ++ s.gates
+    ++ s.tail
 
 -- each section has a line for each of its items
 pub record AreSpelled (h : Header) (p : Parts) (bads : List ℕ) (s : Sections) : Type 0 where

@@ -20,14 +20,17 @@ pub record State : Type 0 where
 
 -- a literal that may be defined
 abbrev pub new_at : ℕ → ℕ → ℕ → Result ℕ ReadRefusal
-new_at vars at n = if (n % 2 == 0) && nat_le 2 n && nat_le n (2 * vars) then Ok n else Err (refusal.Range at)
+new_at vars at n = if (n % 2 == 0) && nat_le 2 n && nat_le n (2 * vars) then Ok n
+    else Err (refusal.Range at)
 
 -- the literal's variable is defined from now on, if it was not before
 abbrev pub define_at : ℕ → List Bool → ℕ → Result (List Bool) ReadRefusal
-define_at at seen l = if bit seen (variable l) then Err (refusal.Twice at) else Ok (slice_set seen (variable l) true)
+define_at at seen l = if bit seen (variable l) then Err (refusal.Twice at)
+    else Ok (slice_set seen (variable l) true)
 
 -- a line whose numbers say what it is, and which literal it defines
-abbrev pub defining_at : {X : Type 0} → (ℕ → List ℕ → Result X ReadRefusal) → (X → ℕ) → ℕ → State → Result (X × State) ReadRefusal
+abbrev pub defining_at : {X : Type 0} → (ℕ → List ℕ → Result X ReadRefusal) → (X → ℕ) → ℕ → State
+    → Result (X × State) ReadRefusal
 defining_at item_from literal_of size s = do
   row ← numbers_at size s.rest
   item ← item_from (place size s.rest) row.0
@@ -92,7 +95,10 @@ sections_at size h rest = do
   outputs ← repeated (literal_at h.vars size) h.outputs latches.1.rest
   bads ← repeated (literal_at h.vars size) h.bads outputs.1
   constraints ← repeated (literal_at h.vars size) h.constraints bads.1
-  gates ← repeated (gate_at h.vars size) h.gates (record { seen = latches.1.seen; rest = constraints.1 })
+  gates ← repeated (gate_at h.vars size) h.gates (record {
+    seen = latches.1.seen;
+    rest = constraints.1;
+  })
   Ok (
     record {
       vars = h.vars;

@@ -95,7 +95,19 @@ sections_read size h bytes p tail e =
     bind_then (repeated (literal_at v size) h.bads o.1) (Three l o) y e2 (λ b bads e3.
     bind_then (repeated (literal_at v size) h.constraints b.1) (Four l o b) y e3 (λ c constraints e4.
     bind_then (repeated (gate_at size) h.gates (before_gates h c.1)) (Five l o b c) y e4 (λ g gates e5.
-    record { l = l; o = o; b = b; c = c; g = g; latches = latches; outputs = outputs; bads = bads; constraints = constraints; gates = gates; whole = e5 })))))
+    record {
+      l = l;
+      o = o;
+      b = b;
+      c = c;
+      g = g;
+      latches = latches;
+      outputs = outputs;
+      bads = bads;
+      constraints = constraints;
+      gates = gates;
+      whole = e5;
+    })))))
 
 sections_spelled : (size : ℕ) (h : Header) (bytes : List ℕ) (p : Parts) (tail : List ℕ) (r : ReadsSections size h bytes p tail)
     → TakesSections h bytes (lists_of h r.l.0 r.o.0 r.b.0 r.c.0 r.g.0) r.g.1.rest
@@ -228,10 +240,12 @@ file_takes bytes f e =
     subst (λ (k : File). TakesFile bytes k) (ok_is file f e2) taken))
 
 pub file_range : (bytes : List ℕ) (f : File) → file_at bytes ≡ Ok f → AreInRange f.parts
-file_range bytes f e = let t = file_takes bytes f e in sections_range f.head t.rest f.parts f.tail t.sections t.limits.sum t.limits.vars
+file_range bytes f e = let t =
+    file_takes bytes f e in sections_range f.head t.rest f.parts f.tail t.sections t.limits.sum t.limits.vars
 
 pub file_design : (bytes : List ℕ) (f : File) → file_at bytes ≡ Ok f → MakesDesign f.parts
-file_design bytes f e = let t = file_takes bytes f e in sections_design f.head t.rest f.parts f.tail t.sections t.limits.sum t.limits.vars
+file_design bytes f e = let t =
+    file_takes bytes f e in sections_design f.head t.rest f.parts f.tail t.sections t.limits.sum t.limits.vars
 
 -- the texts behind the header
 abbrev pub behind_header : Sections → List ℕ
@@ -271,7 +285,15 @@ file_spells bytes f e tail =
       bads = s.bad_lits;
       sections = texts_of t;
       bytes_are = file_text bytes f t;
-      spelled = record { header = t.header.form; latches = s.latches.lines; outputs = s.outputs.lines; bad_lines = s.bads.lines; constraints = s.constraints.lines; gates = s.gates.lines; tail = tail };
+      spelled = record {
+        header = t.header.form;
+        latches = s.latches.lines;
+        outputs = s.outputs.lines;
+        bad_lines = s.bads.lines;
+        constraints = s.constraints.lines;
+        gates = s.gates.lines;
+        tail = tail;
+      };
       counts = s.counts;
       order = sections_order f.head t.rest f.parts f.tail s;
       properties = s.properties;

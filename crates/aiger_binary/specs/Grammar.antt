@@ -47,7 +47,8 @@ text_of s = s.header ++ s.latches ++ s.outputs ++ s.bads ++ s.constraints ++ s.g
 
 -- the items' literals, none negated, are over the variables from this one on, one for each
 abbrev pub AreNumbered : {X : Type 0} → (X → ℕ) → ℕ → List X → Type 0
-AreNumbered {X} literal_of first xs = (i : ℕ) (x : X) → slice_get xs i ≡ Some x → literal_of x ≡ 2 * (first + i)
+AreNumbered {X} literal_of first xs = (i : ℕ) (x : X) → slice_get xs i ≡ Some x
+    → literal_of x ≡ 2 * (first + i)
 
 -- the variables from 1 on are those of the inputs, then of the latches, then of the gates
 pub record AreInOrder (h : Header) (p : Parts) : Type 0 where

@@ -51,7 +51,8 @@ latch_at vars size s = do
 abbrev pub groups_at : ℕ → ℕ → ℕ → List ℕ → Result (ℕ × List ℕ) ReadRefusal
 groups_at size at zero bytes = Err (refusal.Line at)
 groups_at size at (suc most) [] = Err (refusal.Short size)
-groups_at size at (suc most) (b ∷ bs) = if nat_lt b 128 then Ok (b, bs) else groups_at size at most bs >>= λ r. Ok
+groups_at size at (suc most) (b ∷ bs) = if nat_lt b 128 then Ok (b, bs)
+    else groups_at size at most bs >>= λ r. Ok
     (b % 128 + 128 * r.0, r.1)
 
 -- the delta at the front, and what follows it
@@ -62,13 +63,20 @@ delta_at size bytes = groups_at size (place size bytes) MOST_DELTA_BYTES bytes
 unfoldable pub right_at : ℕ → ℕ → ℕ → List ℕ → Result (ℕ × List ℕ) ReadRefusal
 right_at least size above bytes = do
   delta ← delta_at size bytes
-  if nat_le least delta.0 && nat_le delta.0 above then Ok (above - delta.0, delta.1) else Err (refusal.Order (place size bytes))
+  if nat_le least delta.0 && nat_le delta.0 above then Ok (above - delta.0, delta.1)
+      else Err (refusal.Order (place size bytes))
 
 unfoldable pub gate_at : ℕ → State → Result (AndGate × State) ReadRefusal
 gate_at size s = do
   rhs0 ← right_at 1 size s.lit s.rest
   rhs1 ← right_at 0 size rhs0.0 rhs0.1
-  Ok (record { lhs = s.lit; rhs0 = rhs0.0; rhs1 = rhs1.0 }, record { lit = s.lit + 2; rest = rhs1.1 })
+  Ok (
+    record { lhs = s.lit; rhs0 = rhs0.0; rhs1 = rhs1.0 },
+    record {
+      lit = s.lit + 2;
+      rest = rhs1.1;
+    },
+  )
 
 -- ---- all sections
 

@@ -169,7 +169,8 @@ module _ (h : Header) where
       → AllByRecursion (IsPassedOver h) others → front_of lines ++ rest ≡ front_of others ++ bad
       → IsPassedOver h rest ⊎ IsComments rest → (IsPassedOver h (first_line bad) → ⊥) → (IsComments bad → ⊥) → ⊥
   unfolding front_of
-  ends_or_bad [] others rest bad passed passed' e ends unpassed uncommented = ends_here rest bad others ends passed' e unpassed uncommented
+  ends_or_bad [] others rest bad passed passed' e ends unpassed uncommented =
+      ends_here rest bad others ends passed' e unpassed uncommented
   ends_or_bad (line ∷ lines) [] rest bad passed passed' e ends unpassed uncommented =
       let first : first_line bad ≡ line = ap first_line (sym e ∙ front-cons line lines rest)
       ∙ first_line_of line (front_of lines ++ rest) (passed_one h line passed.0) in

@@ -25,4 +25,5 @@ pub record File : Type 0 where
 
 -- behind the gates of a file of so many bytes stands a line that is not in form
 abbrev pub IsTailRefusal : ℕ → File → ReadRefusal → Type 0
-IsTailRefusal size f r = (rest : List ℕ) × HasBadLine f.head f.tail rest × (r ≡ Symbol (place size rest))
+IsTailRefusal size f r = (rest : List ℕ) × HasBadLine f.head f.tail rest
+    × (r ≡ Symbol (place size rest))

@@ -8,7 +8,8 @@ use Rattle.aig_model.specs.declared.netlist.Reset.TheVariants.{Zero, One, Free}
 -- the text is a line of this form for each item, in order
 abbrev pub AreLines : {X : Type 0} → (List ℕ → X → Type 0) → List ℕ → List X → Type 0
 AreLines IsLine text [] = text ≡ []
-AreLines IsLine text (x ∷ xs) = (line : List ℕ) × (others : List ℕ) × IsLine line x × (text ≡ line ++ others)
+AreLines IsLine text (x ∷ xs) = (line : List ℕ) × (others : List ℕ) × IsLine line x
+    × (text ≡ line ++ others)
     × AreLines IsLine others xs
 
 -- a line of one literal
@@ -23,14 +24,16 @@ reset_number l Free = l
 
 -- The line has these numbers and then the reset, which may be left out where it is 0.
 abbrev pub HasReset : List ℕ → List ℕ → ℕ → Reset → Type 0
-HasReset line numbers l reset = IsRow line (numbers ++ reset_number l reset ∷ []) ⊎ (IsRow line numbers × (reset ≡ Zero))
+HasReset line numbers l reset = IsRow line (numbers ++ reset_number l reset ∷ [])
+    ⊎ (IsRow line numbers × (reset ≡ Zero))
 
 -- a literal that may be used: its variable is at most the greatest one
 abbrev pub IsUsed : ℕ → ℕ → Type 0
 IsUsed vars l = l ≤ 2 * vars + 1
 
 -- the line of an item was read: the bytes are its text, and the rest
-pub record TakesItem {X : Type 0} (IsLine : List ℕ → X → Type 0) (InRange : X → Type 0) (bytes : List ℕ) (x : X)
+pub record TakesItem {X : Type 0} (IsLine : List ℕ → X → Type 0) (InRange : X → Type 0)
+    (bytes : List ℕ) (x : X)
     (rest : List ℕ) : Type 0 where
   pub line : List ℕ
   pub parts : bytes ≡ line ++ rest
@@ -38,7 +41,8 @@ pub record TakesItem {X : Type 0} (IsLine : List ℕ → X → Type 0) (InRange 
   pub range : InRange x
 
 -- a line for each of these items was read
-pub record TakesItems {X : Type 0} (IsLine : List ℕ → X → Type 0) (InRange : X → Type 0) (bytes : List ℕ) (xs : List X)
+pub record TakesItems {X : Type 0} (IsLine : List ℕ → X → Type 0) (InRange : X → Type 0)
+    (bytes : List ℕ) (xs : List X)
     (rest : List ℕ) : Type 0 where
   pub text : List ℕ
   pub parts : bytes ≡ text ++ rest

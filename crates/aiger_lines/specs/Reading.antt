@@ -26,7 +26,8 @@ sizes_of row = if nat_lt (length row.0) 5 then None else Some (header_of row.0, 
 
 -- the sizes of a header with the word, and what follows its line
 unfoldable pub header_line_at : List ℕ → List ℕ → Option (Header × List ℕ)
-header_line_at word bytes = option_and_then sizes_of (option_and_then (row_at 9) (option_and_then space_at (word_at word bytes)))
+header_line_at word bytes = option_and_then sizes_of
+    (option_and_then (row_at 9) (option_and_then space_at (word_at word bytes)))
 
 -- M agrees with the numbers of inputs, latches and gates
 abbrev pub fits_sum : Form → Header → Bool
@@ -40,11 +41,13 @@ taken_sizes form h =
     if nat_lt 0 h.justice || nat_lt 0 h.fairness then Err refusal.Liveness else
     if not (fits_sum form h) then Err (refusal.Header 0) else
     if nat_lt MOST_PROPERTIES (property_count h) then Err (refusal.TooLarge large.Props) else
-    if nat_lt MOST_LINES h.outputs || nat_lt MOST_LINES h.constraints then Err (refusal.TooLarge large.Lines) else Ok h
+    if nat_lt MOST_LINES h.outputs || nat_lt MOST_LINES h.constraints
+    then Err (refusal.TooLarge large.Lines) else Ok h
 
 -- a file is not too large
 abbrev pub taken_file : List ℕ → Result (List ℕ) ReadRefusal
-taken_file bytes = if nat_lt MOST_BYTES (length bytes) then Err (refusal.TooLarge large.File) else Ok bytes
+taken_file bytes = if nat_lt MOST_BYTES (length bytes) then Err (refusal.TooLarge large.File)
+    else Ok bytes
 
 -- the sizes of a file in the form, and what follows its header
 unfoldable pub header_at : Form → List ℕ → Result (Header × List ℕ) ReadRefusal
@@ -62,7 +65,8 @@ place size rest = size - length rest
 
 -- what is wrong with a line that is no row of numbers
 abbrev pub line_refusal : ℕ → List ℕ → ReadRefusal
-line_refusal size bytes = if is_some (line_at bytes) then refusal.Line (place size bytes) else refusal.Short size
+line_refusal size bytes = if is_some (line_at bytes) then refusal.Line (place size bytes)
+    else refusal.Short size
 
 -- the numbers of the next line
 unfoldable pub numbers_at : ℕ → List ℕ → Result (List ℕ × List ℕ) ReadRefusal
@@ -79,7 +83,8 @@ used_at vars at n = if nat_le n (2 * vars + 1) then Ok n else Err (refusal.Range
 
 -- what a number says of a latch's first state
 abbrev pub reset_at : ℕ → ℕ → ℕ → Result Reset ReadRefusal
-reset_at latch at n = if n == 0 then Ok Zero else if n == 1 then Ok One else if n == latch then Ok Free else Err
+reset_at latch at n = if n == 0 then Ok Zero else if n == 1 then Ok One else if n == latch
+    then Ok Free else Err
     (refusal.Range at)
 
 -- the literal of the next line
@@ -95,5 +100,6 @@ literal_at vars size bytes = do
 -- a symbol stands there, if no LF does
 abbrev pub is_symbol : Header → List ℕ → Bool
 is_symbol h [] = false
-is_symbol h (letter ∷ line) = option_map_or (λ n. nat_lt n.0 (symbol_count h letter) && is_some (space_at n.1))
+is_symbol h (letter ∷ line) = option_map_or (λ n. nat_lt n.0 (symbol_count h letter)
+    && is_some (space_at n.1))
     (number_at line) false

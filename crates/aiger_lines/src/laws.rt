@@ -15,9 +15,11 @@ ghost use Rattle.aiger_lines.specs.Reading.{header_at, literal_at, reset_at};
 use crate::limits::MOST_BYTES;
 
 pub fn header_is_exact()
-    ensures line { (form : Form) (bytes rest : List ℕ) (h : Header) → header_at form bytes ≡ Ok (h, rest)
+    ensures line { (form : Form) (bytes rest : List ℕ) (h : Header)
+        → header_at form bytes ≡ Ok (h, rest)
         → BeginsWith (λ text. IsHeaderLine form text h) bytes rest }
-    ensures limits { (form : Form) (bytes rest : List ℕ) (h : Header) → header_at form bytes ≡ Ok (h, rest)
+    ensures limits { (form : Form) (bytes rest : List ℕ) (h : Header)
+        → header_at form bytes ≡ Ok (h, rest)
         → IsWithinLimits form h × (length bytes ≤ MOST_BYTES) }
     ensures read { (form : Form) (text rest : List ℕ) (h : Header) → IsHeaderLine form text h
         → IsWithinLimits form h → length (text ++ rest) ≤ MOST_BYTES

@@ -26,7 +26,7 @@ fn line_of(alloc: Global, checked: Checked) -> Result<Text, Memory> {
 }
 
 /// Writes what came of a log, and answers 0 where all was accepted.
-pub fn report<K: Sink>(alloc: Global, checked: Checked, out: &mut K) -> u8 {
+pub(crate) fn report<K: Sink>(alloc: Global, checked: Checked, out: &mut K) -> u8 {
     let Ok(text) = line_of(alloc, checked) else {
         return 6;
     };

@@ -12,5 +12,7 @@ ProvedNeverFail t marks = (p : ℕ) → slice_get marks p ≡ Some Proved → Fa
 
 -- where each property has a mark and none that was proved fails locally, what is broken first is in the set or unknown
 abbrev pub FirstBrokenIsNamed : Type 0
-FirstBrokenIsNamed = (t : Problem) (marks : List Mark) (set : List ℕ) → length marks ≡ length t.assumed → ProvedNeverFail t marks
-    → IsDebuggingSet t.assumed marks set → (m : Trace) (p : ℕ) → IsFirstBroken t m p → Contains set p ⊎ IsUnknown marks p
+FirstBrokenIsNamed = (t : Problem) (marks : List Mark) (set : List ℕ)
+    → length marks ≡ length t.assumed → ProvedNeverFail t marks
+    → IsDebuggingSet t.assumed marks set → (m : Trace) (p : ℕ) → IsFirstBroken t m p
+    → Contains set p ⊎ IsUnknown marks p

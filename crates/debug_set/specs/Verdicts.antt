@@ -32,4 +32,5 @@ are_expected (a ∷ assumed) (m ∷ marks) = is_expected a m && are_expected ass
 
 -- 2 where a property is unknown; else 0 where all came as expected, and 1 where one did not
 abbrev pub status_of : List Bool → List Mark → ℕ
-status_of assumed marks = if list_any is_unknown marks then 2 else (if are_expected assumed marks then 0 else 1)
+status_of assumed marks = if list_any is_unknown marks then 2
+    else (if are_expected assumed marks then 0 else 1)

@@ -29,7 +29,8 @@ is_remark (c ∷ cs) = c == 35
 
 -- what is said of the property whose digits these are
 abbrev pub entry_with : Bool → List ℕ → Option Entry
-entry_with holds digits = option_map (λ p. record { property = p; holds = holds }) (whole_number (number_at digits))
+entry_with holds digits =
+    option_map (λ p. record { property = p; holds = holds }) (whole_number (number_at digits))
 
 -- what is said behind `hold b`, or behind `fail b`
 abbrev pub hold_or_fail : Option (List ℕ) → Option (List ℕ) → Option Entry
@@ -63,7 +64,8 @@ line_read number found line = if is_remark line then Ok found else do
 -- the lines from this number on
 unfoldable pub lines_read : ℕ → Found → List (List ℕ) → Result Found ExpectRefusal
 lines_read number found [] = Ok found
-lines_read number found (line ∷ lines) = line_read number found line >>= λ next. lines_read (number + 1) next lines
+lines_read number found (line ∷ lines) = line_read number found line
+    >>= λ next. lines_read (number + 1) next lines
 
 -- no line named one of so many properties
 abbrev pub nothing_found : ℕ → Found
@@ -78,4 +80,5 @@ all_read count (first ∷ lines) = if not (bytes_eq first opening) then Err (Lin
 
 -- what a text of a file says
 unfoldable pub expectations_of : Netlist → List ℕ → Result (List Bool) ExpectRefusal
-expectations_of d bytes = if nat_lt MOST_BYTES (length bytes) then Err TooLarge else all_read (length d.bads) (parts bytes)
+expectations_of d bytes = if nat_lt MOST_BYTES (length bytes) then Err TooLarge
+    else all_read (length d.bads) (parts bytes)

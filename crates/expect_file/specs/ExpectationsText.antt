@@ -24,14 +24,16 @@ IsRemark (c ∷ cs) = c ≡ 35
 
 -- a line that says whether a property is expected to hold
 abbrev pub Says : List ℕ → Entry → Type 0
-Says line entry = (number : List ℕ) × IsNumber number entry.property × (line ≡ word entry.holds ++ number)
+Says line entry = (number : List ℕ) × IsNumber number entry.property
+    × (line ≡ word entry.holds ++ number)
 
 -- each line says nothing, or the next of the entries
 abbrev pub AreEntries : List (List ℕ) → List Entry → Type 0
 AreEntries [] entries = entries ≡ []
 AreEntries (line ∷ lines) entries =
     (IsRemark line × AreEntries lines entries)
-    ⊎ ((entry : Entry) × (others : List Entry) × Says line entry × (entries ≡ entry ∷ others) × AreEntries lines others)
+    ⊎ ((entry : Entry) × (others : List Entry) × Says line entry × (entries ≡ entry ∷ others)
+    × AreEntries lines others)
 
 -- The lines have an LF between each two, so behind a last LF stands an empty line more. Each entry is of a property of the
 -- design, no two are of the same, and a property is expected to hold unless an entry says that it fails.
@@ -44,5 +46,6 @@ pub record IsExpectations (d : Netlist) (bytes : List ℕ) (expected : List Bool
   pub known : All (λ e. e.property < length d.bads) entries
   pub once : AllPairs (λ e f. e.property ≢ f.property) entries
   pub all : length expected ≡ length d.bads
-  pub fails : (i : ℕ) → i < length d.bads → (bit expected i ≡ false) ↔ Contains entries (record { property = i; holds = false })
+  pub fails : (i : ℕ) → i < length d.bads
+      → (bit expected i ≡ false) ↔ Contains entries (record { property = i; holds = false })
   pub small : length bytes ≤ MOST_BYTES

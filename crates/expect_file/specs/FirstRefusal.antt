@@ -12,4 +12,5 @@ IsFirstRefusal d bytes r = expectations_of d bytes ≡ Err r
 -- bytes say what is expected of a design, or they have a first refusal
 abbrev pub SpellsOrIsRefused : Type 0
 SpellsOrIsRefused = (d : Netlist) (bytes : List ℕ)
-    → ((expected : List Bool) × IsExpectations d bytes expected) ⊎ ((r : ExpectRefusal) × IsFirstRefusal d bytes r)
+    → ((expected : List Bool) × IsExpectations d bytes expected)
+    ⊎ ((r : ExpectRefusal) × IsFirstRefusal d bytes r)

@@ -23,7 +23,8 @@ pub IsLowestOf-some : (waiting : List Obligation) → 0 < length waiting → IsL
 IsLowestOf-some [] some = absurd (omega (arith, some))
 IsLowestOf-some (x ∷ xs) some = IsLowestOf-first (x ∷ xs) x refl
 
-module _ (waiting : List Obligation) (at next : ℕ) (n : Obligation) (is : slice_get waiting next ≡ Some n) (h : IsLowestOf waiting next at) where
+module _ (waiting : List Obligation) (at next : ℕ) (n : Obligation) (is : slice_get waiting next ≡ Some n)
+    (h : IsLowestOf waiting next at) where
   by_level : (b : Bool) → b ≡ nat_lt n.level h.obligation.level → IsLowestOf waiting (next + 1) (cond b next at)
   by_level true e =
       let lower : n.level < h.obligation.level = grind (arith, nat_tests) in
@@ -65,7 +66,8 @@ module _ (waiting : List Obligation) (at next : ℕ) (n : Obligation) (is : slic
           let apart = eqb-false k next (sym f) in
           h.lowest k o (omega (arith, below, apart)) at_k
 
-  pub IsLowestOf-more : (place : ℕ) → place ≡ cond (nat_lt n.level h.obligation.level) next at → IsLowestOf waiting (next + 1) place
+  pub IsLowestOf-more : (place : ℕ)
+      → place ≡ cond (nat_lt n.level h.obligation.level) next at → IsLowestOf waiting (next + 1) place
   IsLowestOf-more place e = subst (IsLowestOf waiting (next + 1)) (sym e) (by_level (nat_lt n.level h.obligation.level) refl)
 
 pub IsTaken-lowest : (before after : List Obligation) (taken : Obligation) (place : ℕ) → IsLowestOf before (length before) place

@@ -13,7 +13,8 @@ pub record IsLowestOf (waiting : List Obligation) (n place : ℕ) : Type 0 where
       → obligation.level < o.level
 
 -- This obligation was taken, and the others stay in their order: no level is lower, and none that was put before has its level.
-pub record IsTaken (before : List Obligation) (taken : Obligation) (after : List Obligation) : Type 0 where
+pub record IsTaken (before : List Obligation) (taken : Obligation)
+    (after : List Obligation) : Type 0 where
   pub place : ℕ
   pub is : slice_get before place ≡ Some taken
   pub rest : after ≡ take place before ++ drop (place + 1) before

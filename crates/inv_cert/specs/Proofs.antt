@@ -16,7 +16,8 @@ use Rattle.inv_cert.specs.declared.not_closed.NotClosed.{NotClosed}
 -- over the clauses of a step the proof refutes that the clause does not hold one step later
 abbrev pub IsProofOf : VerificationTask → List (List ℕ) → List (List ℕ) → List ℕ → Refuted → Type 0
 IsProofOf t base candidates clause proof =
-    Refutes (t.design.vars + 1) (step_clauses t base candidates) (negated_next t.design clause) proof
+    Refutes (t.design.vars + 1) (step_clauses t base candidates) (negated_next t.design clause)
+    proof
 
 -- at this place stands a proof of the clause
 pub record HasProof (t : VerificationTask) (base candidates : List (List ℕ))

@@ -213,16 +213,17 @@ fn clause_numbers(clause: &Clause) -> Numbers {
     numbers
 }
 
+fn numbers_at(list: &Closed, at: u32) -> Numbers {
+    if at < list.len() {
+        clause_numbers(list.clause(at))
+    } else {
+        NO
+    }
+}
+
 /// The clauses of a list, if it has at most two.
 fn numbers(list: &Closed) -> [Numbers; 2] {
-    match list.len() {
-        0 => [NO, NO],
-        1 => [clause_numbers(list.clause(0)), NO],
-        _ => [
-            clause_numbers(list.clause(0)),
-            clause_numbers(list.clause(1)),
-        ],
-    }
+    [numbers_at(list, 0), numbers_at(list, 1)]
 }
 
 // Of an unfinished proof the line is refused where its hints end.

@@ -11,7 +11,8 @@ use Rattle.std.proofs.lemmas.List.Quantifiers.{all_pairs_push}
 use Rattle.std.proofs.lemmas.Slice.Eq.{bytes_eq-Decides}
 use Rattle.ja_base.specs.ClauseSets.{AreDistinct, has_clause, joined, fresh}
 
-pub has_clause_decides : (clauses : List (List ℕ)) (clause : List ℕ) → Decides (has_clause clauses clause) (Contains clauses clause)
+pub has_clause_decides : (clauses : List (List ℕ)) (clause : List ℕ)
+    → Decides (has_clause clauses clause) (Contains clauses clause)
 has_clause_decides clauses clause =
     Decides-contains clauses clause (has_clause clauses clause)
     (Decides-by_or (λ c. bytes_eq c clause) (λ c. c ≡ clause) (list_any (λ c. bytes_eq c clause)) (λ c. bytes_eq-Decides c clause)
@@ -21,11 +22,13 @@ has_clause_decides clauses clause =
 abbrev pub with_clause : List (List ℕ) → List ℕ → List (List ℕ)
 with_clause clauses c = cond (has_clause clauses c) clauses (clauses ++ c ∷ [])
 
-kept_with : (b : Bool) (clauses : List (List ℕ)) (c x : List ℕ) → Contains clauses x → Contains (cond b clauses (clauses ++ c ∷ [])) x
+kept_with : (b : Bool) (clauses : List (List ℕ)) (c x : List ℕ) → Contains clauses x
+    → Contains (cond b clauses (clauses ++ c ∷ [])) x
 kept_with true clauses c x h = h
 kept_with false clauses c x h = Contains-append_left clauses (c ∷ []) x h
 
-there_with : (b : Bool) (clauses : List (List ℕ)) (c : List ℕ) → (b ≡ true → Contains clauses c) → Contains (cond b clauses (clauses ++ c ∷ [])) c
+there_with : (b : Bool) (clauses : List (List ℕ)) (c : List ℕ) → (b ≡ true → Contains clauses c)
+    → Contains (cond b clauses (clauses ++ c ∷ [])) c
 there_with true clauses c h = h refl
 there_with false clauses c h = Contains-push clauses c
 
@@ -46,7 +49,8 @@ joined_has_second a (c ∷ cs) =
 pub joined_has_both : (a b : List (List ℕ)) → All (Contains (joined a b)) (a ++ b)
 joined_has_both a b = All-append (Contains (joined a b)) a b (joined_has_first a b) (joined_has_second a b)
 
-all_with : (P : List ℕ → Type 0) (b : Bool) (clauses : List (List ℕ)) (c : List ℕ) → All P clauses → P c → All P (cond b clauses (clauses ++ c ∷ []))
+all_with : (P : List ℕ → Type 0) (b : Bool) (clauses : List (List ℕ)) (c : List ℕ) → All P clauses → P c
+    → All P (cond b clauses (clauses ++ c ∷ []))
 all_with P true clauses c all here = all
 all_with P false clauses c all here = All-push P clauses c all here
 
@@ -70,11 +74,13 @@ distinct_with : (b : Bool) (clauses : List (List ℕ)) (c : List ℕ) → b ≡ 
 distinct_with true clauses c e distinct = distinct
 distinct_with false clauses c e distinct =
     all_pairs_push (λ x y. x ≢ y) clauses c distinct (λ k d h same.
-    both_ways (has_clause clauses c) (sym e) ((has_clause_decides clauses c).1 (subst (Contains clauses) same (Contains-get_or clauses k d h))))
+    both_ways (has_clause clauses c) (sym e)
+    ((has_clause_decides clauses c).1 (subst (Contains clauses) same (Contains-get_or clauses k d h))))
 
 pub AreDistinct-joined : (a b : List (List ℕ)) → AreDistinct a → AreDistinct (joined a b)
 AreDistinct-joined a [] distinct = distinct
-AreDistinct-joined a (c ∷ cs) distinct = AreDistinct-joined (with_clause a c) cs (distinct_with (has_clause a c) a c refl distinct)
+AreDistinct-joined a (c ∷ cs) distinct =
+    AreDistinct-joined (with_clause a c) cs (distinct_with (has_clause a c) a c refl distinct)
 
 -- ---- the fresh clauses
 
@@ -88,7 +94,8 @@ pub joined_is_fresh : (a b : List (List ℕ)) → joined a b ≡ a ++ fresh a b
 joined_is_fresh a [] = sym (append-nil a)
 joined_is_fresh a (c ∷ cs) = joined_by (has_clause a c) a c cs (joined_is_fresh a cs) (joined_is_fresh (a ++ c ∷ []) cs)
 
-fresh_by : (b : Bool) (a : List (List ℕ)) (c : List ℕ) (cs : List (List ℕ)) → has_clause a c ≡ b → fresh a (fresh a cs) ≡ fresh a cs
+fresh_by : (b : Bool) (a : List (List ℕ)) (c : List ℕ) (cs : List (List ℕ)) → has_clause a c ≡ b
+    → fresh a (fresh a cs) ≡ fresh a cs
     → fresh (a ++ c ∷ []) (fresh (a ++ c ∷ []) cs) ≡ fresh (a ++ c ∷ []) cs
     → fresh a (cond b (fresh a cs) (c ∷ fresh (a ++ c ∷ []) cs)) ≡ cond b (fresh a cs) (c ∷ fresh (a ++ c ∷ []) cs)
 fresh_by true a c cs e had new = had

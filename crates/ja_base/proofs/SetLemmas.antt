@@ -29,7 +29,8 @@ IsPart xs ys = (l : ℕ) → Contains xs l → Contains ys l
 same_first : (x y : ℕ) (xs ys : List ℕ) → IsAbove x xs → IsAbove y ys → (x ≡ y) ⊎ Contains xs y → (y ≡ x) ⊎ Contains ys x → x ≡ y
 same_first x y xs ys g h (inl e) q = e
 same_first x y xs ys g h (inr c) (inl e) = sym e
-same_first x y xs ys g h (inr c) (inr d) = let low = above x y xs g c in let high = above y x ys h d in absurd (omega (arith, low, high))
+same_first x y xs ys g h (inr c) (inr d) = let low = above x y xs g c in let high =
+    above y x ys h d in absurd (omega (arith, low, high))
 
 part_behind : (x y : ℕ) (xs ys : List ℕ) → x ≡ y → IsAbove x xs → IsPart (x ∷ xs) (y ∷ ys) → IsPart xs ys
 part_behind x y xs ys e g part l c =
@@ -43,7 +44,8 @@ same_members [] [] g h p q = refl
 same_members [] (y ∷ ys) g h p q = let c = q y (first y ys) in absurd (omega (arith, c.1))
 same_members (x ∷ xs) [] g h p q = let c = p x (first x xs) in absurd (omega (arith, c.1))
 same_members (x ∷ xs) (y ∷ ys) g h p q =
-    let same = same_first x y xs ys g.0 h.0 (first_or_later x y xs (q y (first y ys))) (first_or_later y x ys (p x (first x xs))) in
+    let same = same_first x y xs ys g.0 h.0 (first_or_later x y xs (q y (first y ys)))
+    (first_or_later y x ys (p x (first x xs))) in
     let others = same_members xs ys g.1 h.1 (part_behind x y xs ys same g.0 p) (part_behind y x ys xs (sym same) h.0 q) in
     ap (λ (k : ℕ). k ∷ xs) same ∙ ap (λ (ks : List ℕ). y ∷ ks) others
 

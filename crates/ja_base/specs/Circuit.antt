@@ -36,7 +36,8 @@ bad_literal c p = slice_index c.bads p
 -- an input, a latch or a gate has this variable
 abbrev pub is_defined : Circuit → ℕ → Bool
 is_defined c u =
-    list_any (λ v. u == v) c.inputs || list_any (λ (l : Latch). u == l.var) c.latches || is_some (finite_map.get c.gates u)
+    list_any (λ v. u == v) c.inputs || list_any (λ (l : Latch). u == l.var) c.latches
+    || is_some (finite_map.get c.gates u)
 
 -- No gate depends on itself through gates: there are heights that rise from the right sides of each gate to the gate.
 pub record IsAcyclic (c : Circuit) : Type 0 where

@@ -18,4 +18,5 @@ joined clauses (c ∷ cs) = joined (if has_clause clauses c then clauses else cl
 -- the clauses of the second list that the first does not have, in order, each once
 abbrev pub fresh : List (List ℕ) → List (List ℕ) → List (List ℕ)
 fresh clauses [] = []
-fresh clauses (c ∷ cs) = if has_clause clauses c then fresh clauses cs else c ∷ fresh (clauses ++ c ∷ []) cs
+fresh clauses (c ∷ cs) = if has_clause clauses c then fresh clauses cs
+    else c ∷ fresh (clauses ++ c ∷ []) cs

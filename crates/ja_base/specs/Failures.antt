@@ -9,7 +9,8 @@ pub record Failure : Type 0 where
 
 -- the stimuli of a property, in the order in which they were found
 abbrev pub stimuli_of : ℕ → List Failure → List Trace
-stimuli_of p failures = map (λ (f : Failure). f.stimulus) (filter (λ (f : Failure). f.property == p) failures)
+stimuli_of p failures =
+    map (λ (f : Failure). f.stimulus) (filter (λ (f : Failure). f.property == p) failures)
 
 -- one of these failures is the property's, and no other is: its stimulus is a local failure of it
 pub record IsShown (t : Problem) (failures : List Failure) (p : ℕ) : Type 0 where

@@ -10,7 +10,8 @@ use Rattle.ja_base.specs.Runs.{IsInitial}
 abbrev pub latch_value : List Latch → List Bool → ℕ → Bool
 latch_value [] state l = false
 latch_value (k ∷ ks) [] l = false
-latch_value (k ∷ ks) (b ∷ state) l = if variable l == k.var then with_sign l b else latch_value ks state l
+latch_value (k ∷ ks) (b ∷ state) l = if variable l == k.var then with_sign l b
+    else latch_value ks state l
 
 -- each clause has a literal that is 1 in this latch row
 abbrev pub MeetsClauses : Circuit → List Bool → List (List ℕ) → Type 0
@@ -20,12 +21,15 @@ MeetsClauses c state clauses = AllSatisfiedBy (latch_value c.latches state) clau
 -- the set leads to a row that meets them.
 pub record IsInductive (c : Circuit) (set : List Bool) (clauses : List (List ℕ)) : Type 0 where
   pub starts : (state : List Bool) → IsInitial c state → MeetsClauses c state clauses
-  pub steps : (state input values : List Bool) → IsValuation c state input values → MeetsClauses c state clauses
-      → MeetsConstraints c values → AssumptionsHold c set values → MeetsClauses c (next_state c values) clauses
+  pub steps : (state input values : List Bool) → IsValuation c state input values
+      → MeetsClauses c state clauses
+      → MeetsConstraints c values → AssumptionsHold c set values
+      → MeetsClauses c (next_state c values) clauses
 
 -- In each row that meets the clauses, no input row that satisfies the constraints breaks the property. Nothing is assumed.
 abbrev pub Covers : Circuit → List (List ℕ) → ℕ → Type 0
-Covers c clauses p = (state input values : List Bool) → IsValuation c state input values → MeetsClauses c state clauses
+Covers c clauses p = (state input values : List Bool) → IsValuation c state input values
+    → MeetsClauses c state clauses
     → MeetsConstraints c values → IsGood c p values
 
 -- the clauses cover each property of the set

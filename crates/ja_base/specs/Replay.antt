@@ -28,7 +28,8 @@ BreaksConstraint c steps k = (k < length steps) × (MeetsConstraints c (step_at 
 
 -- the assumed property q is broken at step k
 abbrev pub BreaksAt : Problem → List (List Bool) → ℕ → ℕ → Type 0
-BreaksAt t steps k q = (k < length steps) × (bit t.assumed q ≡ true) × IsBad t.circuit q (step_at steps k)
+BreaksAt t steps k q = (k < length steps) × (bit t.assumed q ≡ true)
+    × IsBad t.circuit q (step_at steps k)
 
 -- k is the least latch whose reset the first row breaks
 pub record IsNotInitial (t : Problem) (m : Trace) (k : ℕ) : Type 0 where

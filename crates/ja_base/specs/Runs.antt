@@ -13,7 +13,8 @@ pub record Trace : Type 0 where
 -- a latch row that agrees with each reset 0 or 1
 pub record IsInitial (c : Circuit) (state : List Bool) : Type 0 where
   pub width : length state ≡ length c.latches
-  pub agrees : (k : ℕ) (l : Latch) (b : Bool) → slice_get c.latches k ≡ Some l → l.reset ≡ Some b → bit state k ≡ b
+  pub agrees : (k : ℕ) (l : Latch) (b : Bool) → slice_get c.latches k ≡ Some l → l.reset ≡ Some b
+      → bit state k ≡ b
 
 -- The steps of a run are valuations: one for each input row, the first from this state, each other from the state before.
 abbrev pub IsRun : Circuit → List Bool → List (List Bool) → List (List Bool) → Type 0
@@ -39,7 +40,8 @@ pub record IsLegal (c : Circuit) (m : Trace) (steps : List (List Bool)) : Type 0
   pub constrained : All (MeetsConstraints c) steps
 
 -- a legal stimulus that ends with the step last, before which no assumed property was broken
-pub record Reaches (t : Problem) (m : Trace) (earlier : List (List Bool)) (last : List Bool) : Type 0 where
+pub record Reaches (t : Problem) (m : Trace) (earlier : List (List Bool))
+    (last : List Bool) : Type 0 where
   pub legal : IsLegal t.circuit m (earlier ++ last ∷ [])
   pub held : All (AssumptionsHold t.circuit t.assumed) earlier
 

@@ -37,7 +37,8 @@ pub type ClauseList = Items<Clause>;
 impl Clause {
     pub fn from_lits(alloc: Global, lits: &[Lit]) -> Result<Clause, Memory>
         ensures set { IfOk result (IsSetOf lits.now) }
-        ensures ascending { IsStrictlyIncreasing lits.now → IfOk result (λ clause. clause ≡ lits.now) }
+        ensures ascending { IsStrictlyIncreasing lits.now
+            → IfOk result (λ clause. clause ≡ lits.now) }
     {
         let mut lits = SmallVec::from_slice(alloc, lits)?;
         lits.as_mut_slice().sort_unstable();

@@ -34,15 +34,18 @@ pub trait ClosedSet: Sized + Drop {
     /// The clauses of this list, and behind them those of the other that this one does not have.
     fn join(&self, alloc: Global, other: &Self) -> Result<Self, Memory>
         requires { task self.now ≡ task other.now }
-        ensures clauses { IfOk result (λ both. clauses both ≡ joined (clauses self.now) (clauses other.now)) }
+        ensures clauses { IfOk result
+            (λ both. clauses both ≡ joined (clauses self.now) (clauses other.now)) }
         ensures task { IfOk result (λ both. task both ≡ task self.now) };
 
     /// The same in place: the clauses of the other list that this one does not have come behind its own, which are not
     /// copied. Tells which these are.
     fn extend(&mut self, alloc: Global, other: &Self) -> Result<ClauseList, Memory>
         requires { task self.old ≡ task other.now }
-        ensures clauses { OnOk result (clauses self.new ≡ joined (clauses self.old) (clauses other.now)) }
-        ensures fresh { IfOk result (λ added. added ≡ fresh (clauses self.old) (clauses other.now)) }
+        ensures clauses { OnOk result
+            (clauses self.new ≡ joined (clauses self.old) (clauses other.now)) }
+        ensures fresh { IfOk result
+            (λ added. added ≡ fresh (clauses self.old) (clauses other.now)) }
         ensures err { OnErr result (self.new ≡ self.old) }
         ensures task { task self.new ≡ task self.old };
 
@@ -51,5 +54,6 @@ pub trait ClosedSet: Sized + Drop {
         ensures task { IfOk result (λ copy. task copy ≡ task self.now) };
 
     /// What a list covers, each list covers that has all its clauses.
-    ghost grows: { (t : Problem) (few many : List (List ℕ)) (p : ℕ) → covers t few p → All (Contains many) few → covers t many p };
+    ghost grows: { (t : Problem) (few many : List (List ℕ)) (p : ℕ) → covers t few p
+        → All (Contains many) few → covers t many p };
 }

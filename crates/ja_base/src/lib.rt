@@ -1,6 +1,6 @@
-//! Plain values that every other crate speaks of: literals, lists, rows of bits, want of memory, and what closed lists and
-//! shown failures are to those who use them. The product's meaning stands in `specs/`: `Literals`, `Circuit`, `Valuation`, `Runs`, `Replay`,
-//! `Invariants`, `Sets`, `Laws`, `Clauses`, `ClauseSets`, `Trails`, `Failures`, `Budget`.
+//! Plain values that every other crate speaks of: literals, lists, rows of bits, want of memory, and what closed lists and shown
+//! failures are to those who use them. The product's meaning stands in `specs/`: `Literals`, `Circuit`, `Valuation`, `Runs`,
+//! `Replay`, `Invariants`, `Sets`, `Laws`, `Clauses`, `ClauseSets`, `Trails`, `Failures`, `Budget`.
 #![tactic(auto)]
 
 mod clause;

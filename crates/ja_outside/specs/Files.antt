@@ -19,4 +19,5 @@ left_at files (Some place) = option_map (drop place.at) (content_at files place.
 -- the selected file is one of these, and the place is within it
 abbrev pub IsWithin : List (String Global × Vec ℕ Global) → Option Place → Type 0
 IsWithin files None = ⊤
-IsWithin files (Some place) = IsSomeAnd (content_at files place.file) (λ bytes. place.at ≤ length bytes)
+IsWithin files (Some place) =
+    IsSomeAnd (content_at files place.file) (λ bytes. place.at ≤ length bytes)

@@ -4,12 +4,14 @@ use Rattle.ja_base.specs.Meter.{next_count}
 use Rattle.ja_outside.specs.Faults.{Rose}
 
 -- a flag after some polls or none: whether it may be raised at all has stayed, and no answer true was taken back
-pub record IsPolled {T : Type 0} (may_rise : T → Bool) (raised : T → ℕ) (before now : T) : Type 0 where
+pub record IsPolled {T : Type 0} (may_rise : T → Bool) (raised : T → ℕ)
+    (before now : T) : Type 0 where
   pub kept : may_rise now ≡ may_rise before
   pub later : raised before ≤ raised now
 
 -- a poll was answered true, by a flag that may be raised
-pub record IsFoundRaised {T : Type 0} (may_rise : T → Bool) (raised : T → ℕ) (before now : T) : Type 0 where
+pub record IsFoundRaised {T : Type 0} (may_rise : T → Bool) (raised : T → ℕ)
+    (before now : T) : Type 0 where
   pub may : IsTrue (may_rise before)
   pub counted : Rose (raised before) (raised now)
 

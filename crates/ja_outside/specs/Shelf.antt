@@ -8,7 +8,8 @@ Held = Option (List ℕ → Option (List ℕ))
 -- of what `name` holds these bytes were taken, and the rest is left
 abbrev pub IsTaken : Held → List ℕ → List ℕ → Option (List ℕ) → Type 0
 IsTaken None name taken left = ⊤
-IsTaken (Some file_of) name taken left = IsSomeAnd left (λ rest. file_of name ≡ Some (taken ++ rest))
+IsTaken (Some file_of) name taken left =
+    IsSomeAnd left (λ rest. file_of name ≡ Some (taken ++ rest))
 
 -- `name` is held, and all of it is left
 abbrev pub Selects : Held → List ℕ → Option (List ℕ) → Type 0
@@ -22,7 +23,8 @@ Lacks (Some file_of) name = file_of name ≡ None
 -- the first n bytes of what was left stand at the front of `buf`; none only where `buf` is empty or nothing was left
 abbrev pub Moves : Option (List ℕ) → Option (List ℕ) → ℕ → List ℕ → Type 0
 Moves None left n buf = ⊤
-Moves (Some file) left n buf = IsSomeAnd left (λ rest. (file ≡ take n buf ++ rest) × (n ≡ 0 → 0 < length buf → file ≡ []))
+Moves (Some file) left n buf = IsSomeAnd left (λ rest. (file ≡ take n buf ++ rest)
+    × (n ≡ 0 → 0 < length buf → file ≡ []))
 
 -- `name` holds these bytes
 abbrev pub IsWhole : Held → List ℕ → List ℕ → Type 0

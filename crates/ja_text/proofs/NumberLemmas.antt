@@ -84,7 +84,15 @@ number_takes (b ∷ bs) n rest e =
     let some = cond_some (is_digit b) (digits_at 0 (b ∷ bs)) (n, rest) e in
     let d = subst (λ (x : ℕ × List ℕ). Digits 0 (b ∷ bs) x.0 x.1) some.1 (digits_take 0 (b ∷ bs) (omega arith)) in
     record {
-      number = record { text = d.text; form = record { some = one_digit b bs d.text rest some.0 d.parts d.ends; digits = d.digits; value = d.value }; parts = d.parts };
+      number = record {
+        text = d.text;
+        form = record {
+          some = one_digit b bs d.text rest some.0 d.parts d.ends;
+          digits = d.digits;
+          value = d.value;
+        };
+        parts = d.parts;
+      };
       ends = d.ends;
     }
 

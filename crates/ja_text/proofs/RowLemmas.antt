@@ -72,7 +72,14 @@ row_with most bytes n after x t ih (inr h) =
     ∙ ap (λ (k : List ℕ). t.number.text ++ k) (h.2 ∙ ap (λ (k : List ℕ). 32 ∷ k) r.row.parts)
     ∙ sym (append_assoc t.number.text (32 ∷ r.row.text) y.1) in
     let taken : TakesRow (suc most) bytes
-    (n ∷ y.0) y.1 = record { row = record { text = t.number.text ++ 32 ∷ r.row.text; form = IsRow-cons t.number.text r.row.text n y.0 t.number.form r.row.form; parts = parts }; few = omega (arith, r.few) } in
+    (n ∷ y.0) y.1 = record {
+      row = record {
+        text = t.number.text ++ 32 ∷ r.row.text;
+        form = IsRow-cons t.number.text r.row.text n y.0 t.number.form r.row.form;
+        parts = parts;
+      };
+      few = omega (arith, r.few);
+    } in
     subst (λ (z : List ℕ × List ℕ). TakesRow (suc most) bytes z.0 z.1) (sym h.4) taken
 
 pub row_takes : (most : ℕ) (bytes : List ℕ) (x : List ℕ × List ℕ) → row_at most bytes ≡ Some x → TakesRow most bytes x.0 x.1

@@ -52,7 +52,8 @@ pub record TakesNumber (bytes : List ℕ) (n : ℕ) (rest : List ℕ) : Type 0 w
 -- reading goes on with the digits at the front, behind those of n
 abbrev pub digits_at : ℕ → List ℕ → ℕ × List ℕ
 digits_at n [] = (n, [])
-digits_at n (b ∷ bs) = if is_digit b then digits_at (saturated (10 * n + (b - 48))) bs else (n, b ∷ bs)
+digits_at n (b ∷ bs) = if is_digit b then digits_at (saturated (10 * n + (b - 48))) bs
+    else (n, b ∷ bs)
 
 -- the number whose digits are all those at the front, and what follows them; a digit must be there
 unfoldable pub number_at : List ℕ → Option (ℕ × List ℕ)

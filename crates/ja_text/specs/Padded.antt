@@ -10,7 +10,9 @@ padded ns = ns ++ replicate (9 - length ns) 0
 pub length-front : (count : ℕ) (places : List ℕ) → count ≤ 9 → places ≡ padded (take count places)
     → length (take count places) ≡ count
 length-front count places most e =
-    let whole : length places ≡ length (take count places) + (9 - length (take count places)) = ap length e
+    let whole : length places ≡ length (take count places) + (9 - length (take count places)) =
+    ap length e
     ∙ (length-append (take count places) (replicate (9 - length (take count places)) 0)
-    ∙ ap (λ n. length (take count places) + n) (length-replicate (9 - length (take count places)) 0)) in
+    ∙ ap (λ n. length (take count places) + n)
+    (length-replicate (9 - length (take count places)) 0)) in
     omega (arith, length-take count places)

@@ -20,12 +20,14 @@ abbrev pub with_front : {S X F : Type 0} → List X → Result (List X × S) F �
 with_front front read = read >>= λ r. Ok (front ++ r.0, r.1)
 
 -- a loop that repeats the step: i of count steps were made from start, they gave the items of front and left s
-pub record IsUnderway {S X F : Type 0} (step : S → Result (X × S) F) (count : ℕ) (start : S) (i : ℕ) (front : List X)
+pub record IsUnderway {S X F : Type 0} (step : S → Result (X × S) F) (count : ℕ) (start : S) (i : ℕ)
+    (front : List X)
     (s : S) : Type 0 where
   pub whole : with_front front (repeated step (count - i) s) ≡ repeated step count start
 
 -- the refusal of the repeated step is that of one step, behind fewer that were made
-pub record FailsBehind {S X F : Type 0} (step : S → Result (X × S) F) (n : ℕ) (s : S) (f : F) : Type 0 where
+pub record FailsBehind {S X F : Type 0} (step : S → Result (X × S) F) (n : ℕ) (s : S)
+    (f : F) : Type 0 where
   pub items : List X
   pub state : S
   pub made : Chain (λ before x after. step before ≡ Ok (x, after)) s items state

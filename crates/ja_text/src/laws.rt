@@ -18,7 +18,8 @@ pub fn number_is_exact()
 {}
 
 pub fn whole_number_is_exact()
-    ensures { (bytes : List ℕ) (n : ℕ) → (whole_number (number_at bytes) ≡ Some n) ↔ IsNumber bytes n }
+    ensures { (bytes : List ℕ) (n : ℕ) → (whole_number (number_at bytes) ≡ Some n)
+        ↔ IsNumber bytes n }
 {}
 
 /// What is written of a number is read as that number, and is its only text that is neither saturated nor has a

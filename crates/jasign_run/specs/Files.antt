@@ -42,12 +42,15 @@ FailsToRead held before after name = Rose before after ⊎ Lacks held name
 -- the file is refused: this is the first rule that its bytes break, or it is longer than what is read
 abbrev pub IsRefused : {R : Type 0} → Held → List ℕ → ℕ → R → (List ℕ → R → Type 0) → R → Type 0
 IsRefused held name most too_large IsFirst refusal =
-    HasBytes held name most (λ bytes. IsFirst bytes refusal) ⊎ (IsLonger held name most × (refusal ≡ too_large))
+    HasBytes held name most (λ bytes. IsFirst bytes refusal)
+    ⊎ (IsLonger held name most × (refusal ≡ too_large))
 
 -- Why a file gives nothing: it is refused, where `refusal_of` finds a refusal of its kind, or it could not be read, or memory was
 -- wanting. No other stop comes of a file.
-abbrev pub GivesNothing : {R : Type 0} → Held → ℕ → ℕ → List ℕ → ℕ → R → (List ℕ → R → Type 0) → (Stop → Option R) → Stop → Type 0
-GivesNothing held before after name most too_large IsFirst refusal_of Outside = FailsToRead held before after name
+abbrev pub GivesNothing : {R : Type 0} → Held → ℕ → ℕ → List ℕ → ℕ → R → (List ℕ → R → Type 0)
+    → (Stop → Option R) → Stop → Type 0
+GivesNothing held before after name most too_large IsFirst refusal_of Outside =
+    FailsToRead held before after name
 GivesNothing held before after name most too_large IsFirst refusal_of Memory = ⊤
 GivesNothing held before after name most too_large IsFirst refusal_of Usage = ⊥
 GivesNothing held before after name most too_large IsFirst refusal_of (DesignRefused r) =
@@ -74,30 +77,36 @@ expect_refusal stop = None
 
 -- the file is a design, and it is this one
 abbrev pub IsDesignFile : Held → List ℕ → Netlist → Type 0
-IsDesignFile held name d = HasBytes held name design_limit.MOST_BYTES (λ bytes. IsDesign bytes (circuit d) × IsSound d)
+IsDesignFile held name d =
+    HasBytes held name design_limit.MOST_BYTES (λ bytes. IsDesign bytes (circuit d) × IsSound d)
 
 -- why the design file gives no design
 abbrev pub NoDesign : Held → ℕ → ℕ → List ℕ → Stop → Type 0
 NoDesign held before after name stop =
-    GivesNothing held before after name design_limit.MOST_BYTES (design_refusals.TooLarge File) design.IsFirstRefusal design_refusal stop
+    GivesNothing held before after name design_limit.MOST_BYTES (design_refusals.TooLarge File)
+    design.IsFirstRefusal design_refusal stop
 
 -- the file is a stimulus for the design: of this property, with these rows
 abbrev pub IsStimulusFile : Held → List ℕ → Netlist → ℕ → Trace → Type 0
-IsStimulusFile held name d prop m = HasBytes held name stimulus_limit.MOST_BYTES (λ bytes. IsStimulusText d bytes prop m)
+IsStimulusFile held name d prop m =
+    HasBytes held name stimulus_limit.MOST_BYTES (λ bytes. IsStimulusText d bytes prop m)
 
 -- why the stimulus file gives no stimulus for the design
 abbrev pub NoStimulus : Held → ℕ → ℕ → List ℕ → Netlist → Stop → Type 0
 NoStimulus held before after name d stop =
-    GivesNothing held before after name stimulus_limit.MOST_BYTES stimulus_refusals.TooLarge (stimulus.IsFirstRefusal d) stimulus_refusal stop
+    GivesNothing held before after name stimulus_limit.MOST_BYTES stimulus_refusals.TooLarge
+    (stimulus.IsFirstRefusal d) stimulus_refusal stop
 
 -- the file says for each property of the design whether it is expected to hold
 abbrev pub IsExpectFile : Held → List ℕ → Netlist → List Bool → Type 0
-IsExpectFile held name d expected = HasBytes held name expect_limit.MOST_BYTES (λ bytes. IsExpectations d bytes expected)
+IsExpectFile held name d expected =
+    HasBytes held name expect_limit.MOST_BYTES (λ bytes. IsExpectations d bytes expected)
 
 -- why the file of expectations gives none for the design
 abbrev pub NoExpectations : Held → ℕ → ℕ → List ℕ → Netlist → Stop → Type 0
 NoExpectations held before after name d stop =
-    GivesNothing held before after name expect_limit.MOST_BYTES expect_refusals.TooLarge (expect.IsFirstRefusal d) expect_refusal stop
+    GivesNothing held before after name expect_limit.MOST_BYTES expect_refusals.TooLarge
+    (expect.IsFirstRefusal d) expect_refusal stop
 
 -- what is expected of each property: what the file says, and where none is named, that each holds
 abbrev pub IsExpected : Held → Option (List ℕ) → Netlist → List Bool → Type 0

@@ -110,7 +110,8 @@ rest_phrase (Stopped stop) = stop_rest stop
 
 -- the outcome's line, with its LF
 abbrev pub outcome_line : Outcome → List ℕ
-outcome_line outcome = phrase_text (head_phrase outcome) ++ phrase_text (rest_phrase outcome) ++ 10 ∷ []
+outcome_line outcome = phrase_text (head_phrase outcome) ++ phrase_text (rest_phrase outcome)
+    ++ 10 ∷ []
 
 -- 0 where a stimulus is a local failure, and 1 where it is not
 abbrev pub verdict_status : Confirm → ℕ

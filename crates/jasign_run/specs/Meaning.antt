@@ -34,13 +34,15 @@ pub record Replays (held : Held) (names : Names) (verdict : Confirm) (prop steps
   pub steps_are : steps ≡ length trace.inputs
 
 -- the design was accepted, and the stimulus file gives no stimulus
-pub record StopsAtStimulus (held : Held) (before after : ℕ) (names : Names) (stop : Stop) : Type 0 where
+pub record StopsAtStimulus (held : Held) (before after : ℕ) (names : Names)
+    (stop : Stop) : Type 0 where
   pub netlist : Netlist
   pub design_file : IsDesignFile held names.design netlist
   pub stops : NoStimulus held before after names.stim netlist stop
 
 -- the design and the stimulus were accepted, and the file of expectations gives none
-pub record StopsAtExpectations (held : Held) (before after : ℕ) (names : Names) (stop : Stop) : Type 0 where
+pub record StopsAtExpectations (held : Held) (before after : ℕ) (names : Names)
+    (stop : Stop) : Type 0 where
   pub netlist : Netlist
   pub prop : ℕ
   pub trace : Trace
@@ -50,18 +52,23 @@ pub record StopsAtExpectations (held : Held) (before after : ℕ) (names : Names
 
 -- Why `confirm` does not come to a replay. Each file is read and accepted before the next is selected.
 abbrev pub StopsConfirm : Held → ℕ → ℕ → Names → Stop → Type 0
-StopsConfirm held before after names (DesignRefused refusal) = NoDesign held before after names.design (DesignRefused refusal)
-StopsConfirm held before after names (StimulusRefused refusal) = StopsAtStimulus held before after names (StimulusRefused refusal)
-StopsConfirm held before after names (ExpectRefused refusal) = StopsAtExpectations held before after names (ExpectRefused refusal)
+StopsConfirm held before after names (DesignRefused refusal) =
+    NoDesign held before after names.design (DesignRefused refusal)
+StopsConfirm held before after names (StimulusRefused refusal) =
+    StopsAtStimulus held before after names (StimulusRefused refusal)
+StopsConfirm held before after names (ExpectRefused refusal) =
+    StopsAtExpectations held before after names (ExpectRefused refusal)
 StopsConfirm held before after names Outside =
     NoDesign held before after names.design Outside
-    ⊎ (StopsAtStimulus held before after names Outside ⊎ StopsAtExpectations held before after names Outside)
+    ⊎ (StopsAtStimulus held before after names Outside
+    ⊎ StopsAtExpectations held before after names Outside)
 StopsConfirm held before after names Memory = ⊤
 StopsConfirm held before after names Usage = ⊥
 
 -- what `confirm` comes to
 abbrev pub Confirms : Held → ℕ → ℕ → Names → Outcome → Type 0
-Confirms held before after names (Replayed verdict prop steps) = Replays held names verdict prop steps
+Confirms held before after names (Replayed verdict prop steps) =
+    Replays held names verdict prop steps
 Confirms held before after names (Stopped stop) = StopsConfirm held before after names stop
 
 -- the words are in no command's form
@@ -77,14 +84,16 @@ IsUsage (Stopped Outside) = ⊥
 -- what a run comes to, by its words
 abbrev pub Means : Held → ℕ → ℕ → List (List ℕ) → Outcome → Type 0
 Means held before after words outcome =
-    MatchOption (confirm_names words) (IsUsage outcome) (λ names. Confirms held before after names outcome)
+    MatchOption (confirm_names words) (IsUsage outcome)
+    (λ names. Confirms held before after names outcome)
 
 -- no call on the shelf failed, unless the run stops for that reason or for want of memory
 abbrev pub IsQuiet : ℕ → ℕ → Outcome → Type 0
 IsQuiet before after (Replayed verdict prop steps) = after ≡ before
 IsQuiet before after (Stopped stop) = IsQuietStop before after stop
 
--- A line was written with no fault, and the status is this one; or the sink failed, a part of the line stands, and the status is 5.
+-- A line was written with no fault, and the status is this one; or the sink failed, a part of the line stands, and the status is
+-- 5.
 abbrev pub Writes : List ℕ → ℕ → ℕ → Option (List ℕ) → Option (List ℕ) → ℕ → ℕ → Type 0
 Writes line status result before after faults_before faults_after =
     ((result ≡ status) × Appends before after line × (faults_after ≡ faults_before))
@@ -93,4 +102,5 @@ Writes line status result before after faults_before faults_after =
 -- the outcome's line and its status
 abbrev pub Ends : Outcome → ℕ → Option (List ℕ) → Option (List ℕ) → ℕ → ℕ → Type 0
 Ends outcome result before after faults_before faults_after =
-    Writes (outcome_line outcome) (outcome_status outcome) result before after faults_before faults_after
+    Writes (outcome_line outcome) (outcome_status outcome) result before after faults_before
+    faults_after

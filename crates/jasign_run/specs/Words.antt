@@ -23,7 +23,8 @@ confirm_names (command ∷ design ∷ stim ∷ []) =
     then Some (record { design = design; stim = stim; expect = None })
     else None
 confirm_names (command ∷ design ∷ stim ∷ expect ∷ []) =
-    if is_confirm command && not (is_option design) && not (is_option stim) && not (is_option expect)
+    if is_confirm command && not (is_option design) && not (is_option stim)
+    && not (is_option expect)
     then Some (record { design = design; stim = stim; expect = Some expect })
     else None
 confirm_names words = None

@@ -84,9 +84,14 @@ pub fn confirm_run<F: Shelf, K: Sink>(
     ensures kept { F.holds shelf.new ≡ F.holds shelf.old }
     ensures means { (o : Outcomes)
         × Confirms (F.holds shelf.old) (F.faults shelf.old) (F.faults shelf.new)
-        (record { design = design.now; stim = stim.now; expect = option_map (λ x. x.now) expect.entry }) o
+        (record {
+          design = design.now;
+          stim = stim.now;
+          expect = option_map (λ x. x.now) expect.entry;
+        }) o
         × IsQuiet (F.faults shelf.old) (F.faults shelf.new) o
-        × Ends o result (K.written out.old) (K.written out.new) (K.faults out.old) (K.faults out.new) }
+        × Ends o result (K.written out.old) (K.written out.new) (K.faults out.old)
+        (K.faults out.new) }
     ensures shelf_later { F.faults shelf.old ≤ F.faults shelf.new }
     ensures sink_later { K.faults out.old ≤ K.faults out.new }
 {

@@ -48,7 +48,8 @@ fn status_of(outcome: &Outcome) -> u8
 
 /// Writes the line; the answer is the status, and 5 where the sink fails.
 fn write_line<K: Sink>(out: &mut K, line: &[u8], status: u8) -> u8
-    ensures writes { Writes line.now status result (K.written out.old) (K.written out.new) (K.faults out.old) (K.faults out.new) }
+    ensures writes { Writes line.now status result (K.written out.old) (K.written out.new)
+        (K.faults out.old) (K.faults out.new) }
     ensures later { K.faults out.old ≤ K.faults out.new }
 {
     match write_whole(out, line) {
@@ -60,7 +61,8 @@ fn write_line<K: Sink>(out: &mut K, line: &[u8], status: u8) -> u8
 /// Writes the outcome's line, and answers its status. Want of memory for the line is an outcome of its own.
 pub fn finish<K: Sink>(alloc: Global, outcome: &Outcome, out: &mut K) -> u8
     ensures ends { (o : Outcomes) × ((o ≡ outcome.now) ⊎ (o ≡ Stopped Memory))
-        × Ends o result (K.written out.old) (K.written out.new) (K.faults out.old) (K.faults out.new) }
+        × Ends o result (K.written out.old) (K.written out.new) (K.faults out.old)
+        (K.faults out.new) }
     ensures later { K.faults out.old ≤ K.faults out.new }
 {
     match line_of(alloc, outcome) {
@@ -71,7 +73,8 @@ pub fn finish<K: Sink>(alloc: Global, outcome: &Outcome, out: &mut K) -> u8
 
 /// Where there is no memory for the words themselves: writes that, and answers its status.
 pub fn memory_run<K: Sink>(out: &mut K) -> u8
-    ensures ends { Ends (Stopped Memory) result (K.written out.old) (K.written out.new) (K.faults out.old) (K.faults out.new) }
+    ensures ends { Ends (Stopped Memory) result (K.written out.old) (K.written out.new)
+        (K.faults out.old) (K.faults out.new) }
     ensures later { K.faults out.old ≤ K.faults out.new }
 {
     write_line(out, b"fault: memory\n", 6)

@@ -52,7 +52,8 @@ pub fn stimulus_of<F: Shelf>(
         (IsQuietStop (F.faults shelf.old) (F.faults shelf.new)) }
     ensures cases { MatchResult result
         (λ x. IsStimulusFile (F.holds shelf.old) name.now design.now x.0 x.1)
-        (λ s. NoStimulus (F.holds shelf.old) (F.faults shelf.old) (F.faults shelf.new) name.now design.now s) }
+        (λ s. NoStimulus (F.holds shelf.old) (F.faults shelf.old) (F.faults shelf.new) name.now
+        design.now s) }
 {
     match read_whole(alloc, shelf, name, local_stim::MOST_BYTES as u64) {
         Whole::Bytes(bytes) => match read_stim(alloc, bytes.as_slice(), design) {
@@ -79,7 +80,8 @@ fn expectations_of<F: Shelf>(
     ensures sized { IfOk result (λ expected. length expected ≡ length design.now.bads) }
     ensures cases { MatchResult result
         (λ expected. IsExpectFile (F.holds shelf.old) name.now design.now expected)
-        (λ s. NoExpectations (F.holds shelf.old) (F.faults shelf.old) (F.faults shelf.new) name.now design.now s) }
+        (λ s. NoExpectations (F.holds shelf.old) (F.faults shelf.old) (F.faults shelf.new) name.now
+        design.now s) }
 {
     match read_whole(alloc, shelf, name, expect_file::MOST_BYTES as u64) {
         Whole::Bytes(bytes) => match read_expect(alloc, bytes.as_slice(), design) {
@@ -106,7 +108,8 @@ pub fn expected_of<F: Shelf>(
         (IsQuietStop (F.faults shelf.old) (F.faults shelf.new)) }
     ensures sized { IfOk result (λ expected. length expected ≡ length design.now.bads) }
     ensures cases { MatchResult result
-        (λ expected. IsExpected (F.holds shelf.old) (option_map (λ x. x.now) name.entry) design.now expected)
+        (λ expected. IsExpected (F.holds shelf.old) (option_map (λ x. x.now) name.entry) design.now
+        expected)
         (λ s. NothingExpected (F.holds shelf.old) (F.faults shelf.old) (F.faults shelf.new)
         (option_map (λ x. x.now) name.entry) design.now s) }
 {

@@ -157,7 +157,8 @@ fn rest_phrase(outcome: &Outcome) -> Phrase
 }
 
 fn push_phrase(text: &mut Text, phrase: &Phrase) -> Result<(), Memory>
-    ensures { OnOk result (text.new ≡ text.old ++ phrase_text (phrase.now.words.now, phrase.now.number)) }
+    ensures { OnOk result (text.new ≡ text.old
+        ++ phrase_text (phrase.now.words.now, phrase.now.number)) }
 {
     text.push(phrase.words)?;
     if let Some(number) = phrase.number {

@@ -27,9 +27,11 @@ pub fn jasign_run<F: Shelf, K: Sink>(
 ) -> Ran
     ensures kept { F.holds shelf.new ≡ F.holds shelf.old }
     ensures means { (o : Outcomes)
-        × Means (F.holds shelf.old) (F.faults shelf.old) (F.faults shelf.new) (map string_bytes words.now) o
+        × Means (F.holds shelf.old) (F.faults shelf.old) (F.faults shelf.new)
+        (map string_bytes words.now) o
         × IsQuiet (F.faults shelf.old) (F.faults shelf.new) o
-        × Ends o result.status (K.written out.old) (K.written out.new) (K.faults out.old) (K.faults out.new) }
+        × Ends o result.status (K.written out.old) (K.written out.new) (K.faults out.old)
+        (K.faults out.new) }
     ensures shelf_later { F.faults shelf.old ≤ F.faults shelf.new }
     ensures sink_later { K.faults out.old ≤ K.faults out.new }
 {

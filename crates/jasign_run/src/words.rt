@@ -29,7 +29,11 @@ fn is_confirm(word: &str) -> bool
 /// None exactly where the words are not `confirm` and two or three words that do not begin with `-`.
 pub fn read_words(words: &[String]) -> Option<Names<'_>>
     ensures { option_map
-        (λ names. record { design = names.design.now; stim = names.stim.now; expect = option_map (λ x. x.now) names.expect })
+        (λ names. record {
+          design = names.design.now;
+          stim = names.stim.now;
+          expect = option_map (λ x. x.now) names.expect;
+        })
         result ≡ confirm_names (map string_bytes words.now) }
 {
     match words {

@@ -18,7 +18,8 @@ depth_of t depth p = depth (variable (bad_literal t.circuit p))
 -- the first is less deep, or as deep and has the lower number
 abbrev pub IsShallower : Problem → (ℕ → ℕ) → ℕ → ℕ → Type 0
 IsShallower t depth p q =
-    (depth_of t depth p < depth_of t depth q) ⊎ ((depth_of t depth p ≡ depth_of t depth q) × (p < q))
+    (depth_of t depth p < depth_of t depth q)
+    ⊎ ((depth_of t depth p ≡ depth_of t depth q) × (p < q))
 
 -- The first is expected to hold and the second is not, or both are expected alike and the first is shallower.
 abbrev pub IsBefore : Problem → (ℕ → ℕ) → ℕ → ℕ → Type 0

@@ -143,14 +143,30 @@ module _ (t : Problem) (p : ℕ) (m : Trace) (earlier : List (List Bool)) (last 
     (legal : IsLegal t.circuit m (earlier ++ last ∷ [])) where
   broken_at : IsBad t.circuit p last → (k : ℕ) → k < length earlier → IsLeast (λ j. (r : ℕ) × BreaksAt t earlier j r) k
       → LeastBelow (BreaksAt t earlier k) (length t.assumed) → SomeVerdict t p m
-  broken_at bad k lt least (inl q) =
-      (Assumed k q.0, record { earlier = earlier; last = last; legal = legal; bad = bad; least_step = least; least_property = q.2 })
+  broken_at bad k lt least (inl q) = (
+    Assumed k q.0,
+    record {
+      earlier = earlier;
+      last = last;
+      legal = legal;
+      bad = bad;
+      least_step = least;
+      least_property = q.2;
+    },
+  )
   broken_at bad k lt least (inr none) = absurd (none least.0.0 (set_within t.assumed least.0.0 least.0.1.1) least.0.1)
 
   bad_verdict : IsBad t.circuit p last → LeastBelow (λ j. (r : ℕ) × BreaksAt t earlier j r) (length earlier) → SomeVerdict t p m
   bad_verdict bad (inl found) = broken_at bad found.0 found.1 found.2 (least_property t earlier found.0 found.1)
-  bad_verdict bad (inr none) =
-      (Local, record { earlier = earlier; last = last; reached = record { legal = legal; held = held t earlier none }; bad = bad })
+  bad_verdict bad (inr none) = (
+    Local,
+    record {
+      earlier = earlier;
+      last = last;
+      reached = record { legal = legal; held = held t earlier none };
+      bad = bad;
+    },
+  )
 
   legal_verdict : (b : Bool) → value last (bad_literal t.circuit p) ≡ b → SomeVerdict t p m
   legal_verdict false good = (NotBad, record { earlier = earlier; last = last; legal = legal; good = good })

@@ -77,7 +77,8 @@ put_together : (d : Netlist) (bytes named after_number after_first after_input :
     → IsRowLine (length d.inputs) after_first input after_input → AreRows (length d.inputs) after_input others most
     → IsStimulusText d bytes p (record { first = first; inputs = input ∷ others })
 unfolding IsPropertyLine
-put_together d bytes named after_number after_first after_input p most first input others few small begins property first_line input_line rows =
+put_together d bytes named after_number after_first after_input p most first input others few small begins property first_line
+    input_line rows =
     let input_rows : after_first ≡ (input_line.0 ++ 10 ∷ rows.text) ++ 46 ∷ rows.after = input_line.1
     ∙ ap (λ (t : List ℕ). input_line.0 ++ 10 ∷ t) rows.parts
     ∙ sym (append_assoc input_line.0 (10 ∷ rows.text) (46 ∷ rows.after)) in
@@ -121,7 +122,8 @@ stimulus_takes most d bytes x few small h =
     let input = bind_ok (row_at (length d.inputs) 4 first.0.1) _ x first.2 in
     let rows = bind_ok (with_rows (input.0.0 ∷ []) (rows_at (length d.inputs) most 5 input.0.1)) _ x input.2 in
     let others = bind_ok (rows_at (length d.inputs) most 5 input.0.1) _ rows.0 rows.1 in
-    let text = put_together d bytes named.0 property.0.1 first.0.1 input.0.1 property.0.0 most first.0.0 input.0.0 others.0 few small (one_takes bytes named.0 named.1)
+    let text = put_together d bytes named.0 property.0.1 first.0.1 input.0.1 property.0.0 most first.0.0 input.0.0 others.0 few
+    small (one_takes bytes named.0 named.1)
     (property_line (length d.bads) named.0 property.0 property.1) (row_line (length d.latches) 3 property.0.1 first.0 first.1)
     (row_line (length d.inputs) 4 first.0.1 input.0 input.1)
     (rows_take (length d.inputs) most 5 input.0.1 others.0 others.1) in

@@ -13,4 +13,5 @@ IsFirstRefusal d bytes r = stimulus_of d bytes ≡ Err r
 -- bytes spell a stimulus of the design, or they have a first refusal
 abbrev pub SpellsOrIsRefused : Type 0
 SpellsOrIsRefused = (d : Netlist) (bytes : List ℕ)
-    → ((p : ℕ) × (m : Trace) × IsStimulusText d bytes p m) ⊎ ((r : StimRefusal) × IsFirstRefusal d bytes r)
+    → ((p : ℕ) × (m : Trace) × IsStimulusText d bytes p m)
+    ⊎ ((r : StimRefusal) × IsFirstRefusal d bytes r)

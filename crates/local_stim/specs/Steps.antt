@@ -17,7 +17,8 @@ BreaksAssumption t values p = (bit t.assumed p ≡ true) × IsBad t.circuit p va
 -- the first of these steps that breaks an assumed property, with the least such property; None where no step does
 abbrev pub IsFirstBreak : Problem → List (List Bool) → Option Broken → Type 0
 IsFirstBreak t steps None = All (AssumptionsHold t.circuit t.assumed) steps
-IsFirstBreak t steps (Some b) = IsLeast (λ j. (r : ℕ) × BreaksAt t steps j r) b.step × IsLeast (BreaksAt t steps b.step) b.prop
+IsFirstBreak t steps (Some b) = IsLeast (λ j. (r : ℕ) × BreaksAt t steps j r) b.step
+    × IsLeast (BreaksAt t steps b.step) b.prop
 
 -- the run of these rows from the first latch row meets the constraints and ends in this latch row, with this first break
 pub record Replays (t : Problem) (first : List Bool) (rows : List (List Bool)) (state : List Bool)
@@ -29,7 +30,8 @@ pub record Replays (t : Problem) (first : List Bool) (rows : List (List Bool)) (
 
 -- a step goes on in the run of a stimulus by the row at its place
 abbrev pub GoesOn : Circuit → Trace → ℕ → Standing → Standing → Type 0
-GoesOn c m step old new = (steps : List (List Bool)) → RunsTo c m.first (take step m.inputs) steps old.state
+GoesOn c m step old new = (steps : List (List Bool))
+    → RunsTo c m.first (take step m.inputs) steps old.state
     → RunsTo c m.first (take (step + 1) m.inputs) (steps ++ new.values ∷ []) new.state
 
 -- all rows of a stimulus but the last

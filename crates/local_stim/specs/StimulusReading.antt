@@ -14,7 +14,8 @@ use Rattle.local_stim.specs.declared.refusal.StimRefusal.TheVariants.{Line, Unkn
 abbrev pub is_dot : List ℕ → Bool
 is_dot line = bytes_eq line (46 ∷ [])
 
-abbrev pub line_or_dot : ℕ → List ℕ → Option (List ℕ × List ℕ) → Result (List ℕ × List ℕ) StimRefusal
+abbrev pub line_or_dot : ℕ → List ℕ → Option (List ℕ × List ℕ)
+    → Result (List ℕ × List ℕ) StimRefusal
 line_or_dot number rest (Some found) = Ok found
 line_or_dot number rest None = if is_dot rest then Ok (rest, []) else Err (Short number)
 
@@ -58,7 +59,8 @@ dot_at number rest = do
   if is_dot line.0 then Ok [] else Err TooLarge
 
 -- what is read behind a row
-abbrev pub rows_behind : (List ℕ → Result (List (List Bool)) StimRefusal) → Option (List Bool × List ℕ)
+abbrev pub rows_behind : (List ℕ → Result (List (List Bool)) StimRefusal)
+    → Option (List Bool × List ℕ)
     → Result (List (List Bool)) StimRefusal
 rows_behind others None = Ok []
 rows_behind others (Some found) = others found.1 >>= λ rows. Ok (found.0 ∷ rows)
@@ -70,7 +72,8 @@ rows_at width (suc left) number rest = next_row_at width number rest >>= λ foun
     (rows_at width left (number + 1)) found
 
 -- the rows that were read, and then what is read
-abbrev pub with_rows : List (List Bool) → Result (List (List Bool)) StimRefusal → Result (List (List Bool)) StimRefusal
+abbrev pub with_rows : List (List Bool) → Result (List (List Bool)) StimRefusal
+    → Result (List (List Bool)) StimRefusal
 with_rows front read = read >>= λ rows. Ok (front ++ rows)
 
 -- the first line
@@ -105,4 +108,5 @@ stimulus_at most d bytes = do
 
 -- what a text of a file holds
 unfoldable pub stimulus_of : Netlist → List ℕ → Result (ℕ × Trace) StimRefusal
-stimulus_of d bytes = if nat_lt MOST_BYTES (length bytes) then Err TooLarge else stimulus_at (MOST_ROWS - 1) d bytes
+stimulus_of d bytes = if nat_lt MOST_BYTES (length bytes) then Err TooLarge
+    else stimulus_at (MOST_ROWS - 1) d bytes

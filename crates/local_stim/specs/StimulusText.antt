@@ -20,7 +20,8 @@ IsRowText (c ∷ cs) [] = ⊥
 -- a line for each row
 abbrev pub AreRowLines : List ℕ → List (List Bool) → Type 0
 AreRowLines text [] = text ≡ []
-AreRowLines text (row ∷ rows) = (line : List ℕ) × (others : List ℕ) × IsRowText line row × (text ≡ line ++ 10 ∷ others)
+AreRowLines text (row ∷ rows) = (line : List ℕ) × (others : List ℕ) × IsRowText line row
+    × (text ≡ line ++ 10 ∷ others)
     × AreRowLines others rows
 
 -- nothing, or an LF and then any bytes
@@ -57,7 +58,8 @@ row_line row = map bit_character row ++ 10 ∷ []
 
 -- the one text in which a stimulus of property p is written: no leading zero, no `x`, the LF behind the dot, and nothing more
 abbrev pub stimulus_text : ℕ → Trace → List ℕ
-stimulus_text p m = 49 ∷ 10 ∷ 98 ∷ decimal p ++ 10 ∷ map bit_character m.first ++ 10 ∷ flat_map row_line m.inputs ++ 46 ∷ 10 ∷ []
+stimulus_text p m = 49 ∷ 10 ∷ 98 ∷ decimal p ++ 10 ∷ map bit_character m.first
+    ++ 10 ∷ flat_map row_line m.inputs ++ 46 ∷ 10 ∷ []
 
 -- the design has the property, the rows have its widths, and there is a step
 pub record Suits (d : Netlist) (p : ℕ) (m : Trace) : Type 0 where
@@ -74,4 +76,5 @@ pub record IsWithinLimits (p : ℕ) (m : Trace) : Type 0 where
 
 -- what is written of a stimulus within the limits is a text that spells it
 abbrev pub WrittenIsSpelled : Type 0
-WrittenIsSpelled = (d : Netlist) (p : ℕ) (m : Trace) → Suits d p m → IsWithinLimits p m → IsStimulusText d (stimulus_text p m) p m
+WrittenIsSpelled = (d : Netlist) (p : ℕ) (m : Trace) → Suits d p m → IsWithinLimits p m
+    → IsStimulusText d (stimulus_text p m) p m

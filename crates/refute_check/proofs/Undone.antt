@@ -89,7 +89,8 @@ open_in : (row : List Bool) (clause : List ℕ) (i : ℕ) → In i (open_lits ro
 open_in row [] i h = h
 open_in row (l ∷ ls) i h = go (bit row (negated l)) (open_in row ls i) h
   where
-    go : (b : Bool) → (In i (open_lits row ls) → In i ls) → In i (cond (not b) (l ∷ open_lits row ls) (open_lits row ls)) → (i ≡ l) ⊎ In i ls
+    go : (b : Bool) → (In i (open_lits row ls) → In i ls) → In i (cond (not b) (l ∷ open_lits row ls) (open_lits row ls))
+        → (i ≡ l) ⊎ In i ls
     go true later h = inr (later h)
     go false later h = elim h [ inl q ↦ inl q | inr g ↦ inr (later g) ]
 

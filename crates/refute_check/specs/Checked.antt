@@ -31,11 +31,13 @@ pub record Checked : Type 0 where
 
 -- each row under which all of the first list hold makes all of the second hold
 abbrev pub Follows : List (List ℕ) → List (List ℕ) → Type 0
-Follows added list = (row : List Bool) → AllSatisfiedBy (value row) added → AllSatisfiedBy (value row) list
+Follows added list = (row : List Bool) → AllSatisfiedBy (value row) added
+    → AllSatisfiedBy (value row) list
 
 -- each row under which all clauses of the list hold makes this one hold
 abbrev pub FollowsOne : List (List ℕ) → List ℕ → Type 0
-FollowsOne added clause = (row : List Bool) → AllSatisfiedBy (value row) added → SatisfiedBy (value row) clause
+FollowsOne added clause = (row : List Bool) → AllSatisfiedBy (value row) added
+    → SatisfiedBy (value row) clause
 
 -- the clause came last, as one that was added
 pub record IsAdded (before : Checked) (clause : List ℕ) (after : Checked) : Type 0 where
@@ -47,7 +49,10 @@ pub record IsAdded (before : Checked) (clause : List ℕ) (after : Checked) : Ty
 
 -- the checker with one more accepted line
 abbrev pub with_line : Checked → List ℕ → Checked
-with_line before clause = record before { list = before.list ++ clause ∷ []; spare = before.spare - 1 }
+with_line before clause = record before {
+  list = before.list ++ clause ∷ [];
+  spare = before.spare - 1;
+}
 
 -- the checker without the lines that came after the last added clause
 abbrev pub without_lines : Checked → Checked

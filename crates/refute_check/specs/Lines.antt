@@ -24,7 +24,8 @@ found_at row None = Other
 found_at row (Some clause) = found_of row (open_lits row clause)
 
 -- the row after the hint of this place, and whether it is refused; `next` is what the later ones do
-abbrev pub judged : Found → List Bool → ℕ → List ℕ → (List Bool → List Bool × Option ℕ) → List Bool × Option ℕ
+abbrev pub judged : Found → List Bool → ℕ → List ℕ → (List Bool → List Bool × Option ℕ)
+    → List Bool × Option ℕ
 judged False row at [] next = (row, None)
 judged False row at (h ∷ hints) next = (row, Some at)
 judged (Forces l) row at hints next = next (slice_set row l true)
@@ -34,7 +35,8 @@ judged Other row at hints next = (row, Some at)
 abbrev pub outcome : List (List ℕ) → List ℕ → List Bool → ℕ → List Bool × Option ℕ
 outcome clauses [] row at = (row, Some at)
 outcome clauses (h ∷ hints) row at =
-    judged (found_at row (slice_get clauses h)) row at hints (λ next. outcome clauses hints next (at + 1))
+    judged (found_at row (slice_get clauses h)) row at hints
+    (λ next. outcome clauses hints next (at + 1))
 
 -- each literal of the clause made false
 abbrev pub assumed : List ℕ → List Bool → List Bool
@@ -77,7 +79,8 @@ is_fit vars clause = list_all (λ l. nat_lt (variable l) vars) clause && not (ha
 -- the hint at which a line is refused, if it is
 abbrev pub refusal : ℕ → List (List ℕ) → List ℕ → List ℕ → Option ℕ
 refusal vars clauses clause hints =
-    if is_fit vars clause then (outcome clauses hints (assumed clause (unknown vars)) 0).1 else Some 0
+    if is_fit vars clause then (outcome clauses hints (assumed clause (unknown vars)) 0).1
+    else Some 0
 
 -- the line is accepted by unit propagation
 abbrev pub accepts_line : ℕ → List (List ℕ) → List ℕ → List ℕ → Bool

@@ -5,7 +5,8 @@ use Rattle.ja_base.specs.Literals.{negated, value, AllSatisfiedBy}
 use Rattle.ja_base.specs.Clauses.{has_literal}
 
 -- the row has a bit for each variable, and under it each clause holds and each literal of `under` is 1
-pub record Satisfies (vars : ℕ) (clauses : List (List ℕ)) (under : List ℕ) (row : List Bool) : Type 0 where
+pub record Satisfies (vars : ℕ) (clauses : List (List ℕ)) (under : List ℕ)
+    (row : List Bool) : Type 0 where
   pub width : length row ≡ vars
   pub clauses_hold : AllSatisfiedBy (value row) clauses
   pub under_holds : All (λ l. value row l ≡ true) under

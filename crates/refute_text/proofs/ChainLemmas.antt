@@ -11,11 +11,13 @@ module _ {X : Type 0} (Takes : List ℕ → X → List ℕ → Type 0) where
   IsOne = (s : List ℕ) (x : X) (t : List ℕ) (y : X) (u : List ℕ) → Takes s x t → Takes s y u → (x ≡ y) × (t ≡ u)
 
   -- one more is taken
-  pub Chain-more : (s : List ℕ) (xs : List X) (t : List ℕ) (x : X) (u : List ℕ) → Chain Takes s xs t → Takes t x u → Chain Takes s (xs ++ x ∷ []) u
+  pub Chain-more : (s : List ℕ) (xs : List X) (t : List ℕ) (x : X) (u : List ℕ) → Chain Takes s xs t → Takes t x u
+      → Chain Takes s (xs ++ x ∷ []) u
   Chain-more s [] t x u c p = (u, subst (λ (v : List ℕ). Takes v x u) (sym c) p, refl)
   Chain-more s (y ∷ ys) t x u c p = (c.0, c.1, Chain-more c.0 ys t x u c.2 p)
 
-  chains_agree : IsOne → (s : List ℕ) (xs : List X) (t : List ℕ) (ys : List X) (u : List ℕ) → Chain Takes s xs t → TakesNone Takes t
+  chains_agree : IsOne → (s : List ℕ) (xs : List X) (t : List ℕ) (ys : List X) (u : List ℕ) → Chain Takes s xs t
+      → TakesNone Takes t
       → Chain Takes s ys u → TakesNone Takes u → (xs ≡ ys) × (t ≡ u)
   chains_agree one s [] t [] u c d e f = (refl, sym c ∙ e)
   chains_agree one s [] t (y ∷ ys) u c d e f = absurd (d y e.0 (subst (λ (v : List ℕ). Takes v y e.0) c e.1))
@@ -27,7 +29,8 @@ module _ {X : Type 0} (Takes : List ℕ → X → List ℕ → Type 0) where
       (ap (λ (z : X). z ∷ xs) first.0 ∙ ap (λ (zs : List X). y ∷ zs) others.0, others.1)
 
   -- what stands at the front is determined, and what follows it too
-  pub all_agree : IsOne → (s : List ℕ) (xs : List X) (t : List ℕ) (ys : List X) (u : List ℕ) → TakesAll Takes s xs t → TakesAll Takes s ys u → (xs ≡ ys) × (t ≡ u)
+  pub all_agree : IsOne → (s : List ℕ) (xs : List X) (t : List ℕ) (ys : List X) (u : List ℕ) → TakesAll Takes s xs t
+      → TakesAll Takes s ys u → (xs ≡ ys) × (t ≡ u)
   all_agree one s xs t ys u c d = chains_agree one s xs t ys u c.taken c.ends d.taken d.ends
 
   -- the bytes that are taken are the texts, one behind the other
@@ -35,14 +38,17 @@ module _ {X : Type 0} (Takes : List ℕ → X → List ℕ → Type 0) where
       → (s : List ℕ) (xs : List X) (t : List ℕ) → Chain Takes s xs t → s ≡ flat_map text xs ++ t
   Chain-spelled text each s [] t c = c
   Chain-spelled text each s (x ∷ xs) t c =
-      each s x c.0 c.1 ∙ ap (λ (v : List ℕ). text x ++ v) (Chain-spelled text each c.0 xs t c.2) ∙ sym (append_assoc (text x) (flat_map text xs) t)
+      each s x c.0 c.1 ∙ ap (λ (v : List ℕ). text x ++ v) (Chain-spelled text each c.0 xs t c.2)
+      ∙ sym (append_assoc (text x) (flat_map text xs) t)
       ∙ ap (λ (v : List ℕ). v ++ t) (sym (flat_map-cons text x xs))
 
   -- each that is taken is good
-  pub Chain-good : (Good : X → Type 0) → ((s : List ℕ) (x : X) (t : List ℕ) → Takes s x t → Good x) → (s : List ℕ) (xs : List X) (t : List ℕ) → Chain Takes s xs t → AllByRecursion Good xs
+  pub Chain-good : (Good : X → Type 0) → ((s : List ℕ) (x : X) (t : List ℕ) → Takes s x t → Good x)
+      → (s : List ℕ) (xs : List X) (t : List ℕ) → Chain Takes s xs t → AllByRecursion Good xs
   Chain-good Good each s [] t c = tt
   Chain-good Good each s (x ∷ xs) t c = (each s x c.0 c.1, Chain-good Good each c.0 xs t c.2)
 
 -- the text of the first, and behind it those of the others
-pub regroup : {X : Type 0} (text : X → List ℕ) (x : X) (xs : List X) (rest : List ℕ) → flat_map text (x ∷ xs) ++ rest ≡ text x ++ (flat_map text xs ++ rest)
+pub regroup : {X : Type 0} (text : X → List ℕ) (x : X) (xs : List X) (rest : List ℕ)
+    → flat_map text (x ∷ xs) ++ rest ≡ text x ++ (flat_map text xs ++ rest)
 regroup text x xs rest = ap (λ (v : List ℕ). v ++ rest) (flat_map-cons text x xs) ∙ append_assoc (text x) (flat_map text xs) rest

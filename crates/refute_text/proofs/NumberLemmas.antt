@@ -16,7 +16,8 @@ use Rattle.refute_text.specs.Reading.{TakesSpaced, TakesNone, TakesAll, has_lead
 use Rattle.refute_text.proofs.ChainLemmas.{IsOne, regroup}
 
 -- what was read first, where something was read
-and_then_some : {A B : Type 0} (f : A → Option B) (o : Option A) (y : B) → option_and_then f o ≡ Some y → (x : A) × (o ≡ Some x) × (f x ≡ Some y)
+and_then_some : {A B : Type 0} (f : A → Option B) (o : Option A) (y : B) → option_and_then f o ≡ Some y
+    → (x : A) × (o ≡ Some x) × (f x ≡ Some y)
 and_then_some f None y e = absurd cc
 and_then_some f (Some x) y e = (x, refl, e)
 
@@ -28,7 +29,8 @@ passed false false x y e = (refl, refl, cc)
 
 -- ---- zeros in front
 
-zero_only : (d : ℕ) (ds rest : List ℕ) → IsNumber (d ∷ ds) (value_of (d ∷ ds)) → has_leading_zero ((d ∷ ds) ++ rest) ≡ false → d ≡ 48 → d ∷ ds ≡ 48 ∷ []
+zero_only : (d : ℕ) (ds rest : List ℕ) → IsNumber (d ∷ ds) (value_of (d ∷ ds)) → has_leading_zero ((d ∷ ds) ++ rest) ≡ false
+    → d ≡ 48 → d ∷ ds ≡ 48 ∷ []
 zero_only d [] rest h e zero = ap (λ (k : ℕ). k ∷ []) zero
 zero_only d (c ∷ cs) rest h e zero =
     let digit : is_digit c ≡ true = digit_true c h.digits.1.0 in
@@ -37,7 +39,8 @@ zero_only d (c ∷ cs) rest h e zero =
     absurd cc
 
 -- where no zero stands in front of a digit, none stands in front of the number's digits
-no_leading_zero : (text rest : List ℕ) → IsNumber text (value_of text) → has_leading_zero (text ++ rest) ≡ false → HasNoLeadingZero text
+no_leading_zero : (text rest : List ℕ) → IsNumber text (value_of text) → has_leading_zero (text ++ rest) ≡ false
+    → HasNoLeadingZero text
 no_leading_zero [] rest h e zero = absurd (omega (arith, h.some))
 no_leading_zero (d ∷ ds) rest h e zero = zero_only d ds rest h e zero
 
@@ -46,7 +49,8 @@ and_false true c e = e
 and_false false c e = refl
 
 -- and the other way round
-no_zero : (text rest : List ℕ) → 0 < length text → HasNoLeadingZero text → BeginsWithoutDigit rest → has_leading_zero (text ++ rest) ≡ false
+no_zero : (text rest : List ℕ) → 0 < length text → HasNoLeadingZero text → BeginsWithoutDigit rest
+    → has_leading_zero (text ++ rest) ≡ false
 no_zero [] rest some leading ends = absurd (omega (arith, some))
 no_zero (d ∷ []) [] some leading ends = refl
 no_zero (d ∷ []) (b ∷ bs) some leading ends = and_false (eqb d 48) (is_digit b) ends
@@ -62,28 +66,41 @@ no_zero (d ∷ e ∷ ds) rest some leading ends = other (eqb d 48) refl
 -- ---- one number
 
 -- the digits that were read are those that are written of the number
-number_written : (digits : List ℕ) (n : ℕ) (rest : List ℕ) → TakesNumber digits n rest → n ≤ 4294967295 → has_leading_zero digits ≡ false → digits ≡ decimal n ++ rest
+number_written : (digits : List ℕ) (n : ℕ) (rest : List ℕ) → TakesNumber digits n rest → n ≤ 4294967295
+    → has_leading_zero digits ≡ false → digits ≡ decimal n ++ rest
 number_written digits n rest t small zero =
     let text = t.number.text in
     let exact : value_of text ≡ n = omega (arith, t.number.form.value) in
-    let plain : IsNumber text (value_of text) = subst (λ (k : ℕ). IsNumber text k) {y = value_of text} (sym exact) t.number.form in
+    let plain : IsNumber text (value_of text) =
+    subst (λ (k : ℕ). IsNumber text k) {y = value_of text} (sym exact) t.number.form in
     let none : has_leading_zero (text ++ rest) ≡ false = ap has_leading_zero (sym t.number.parts) ∙ zero in
-    let written : text ≡ decimal n = canonical_is_decimal text n (omega arith) (record { number = t.number.form; exact = exact; leading = no_leading_zero text rest plain none }) in
+    let written : text ≡ decimal n = canonical_is_decimal text n (omega arith) (record {
+      number = t.number.form;
+      exact = exact;
+      leading = no_leading_zero text rest plain none;
+    }) in
     t.number.parts ∙ ap (λ (k : List ℕ). k ++ rest) written
 
-spaced_parts : (bytes digits : List ℕ) (n : ℕ) (rest : List ℕ) → bytes ≡ 32 ∷ digits → TakesNumber digits n rest → n ≤ 4294967295 → has_leading_zero digits ≡ false → TakesSpaced bytes n rest
+spaced_parts : (bytes digits : List ℕ) (n : ℕ) (rest : List ℕ) → bytes ≡ 32 ∷ digits → TakesNumber digits n rest → n ≤ 4294967295
+    → has_leading_zero digits ≡ false → TakesSpaced bytes n rest
 spaced_parts bytes digits n rest begins t small zero =
-    record { small = omega arith; parts = begins ∙ ap (λ (k : List ℕ). 32 ∷ k) (number_written digits n rest t small zero); ends = t.ends }
+    record {
+      small = omega arith;
+      parts = begins ∙ ap (λ (k : List ℕ). 32 ∷ k) (number_written digits n rest t small zero);
+      ends = t.ends;
+    }
 
 -- the number behind the space, if its test lets it through
 number_behind : List ℕ → Option (ℕ × List ℕ)
-number_behind digits = option_and_then (λ x. cond (ltb 4294967295 x.0 || has_leading_zero digits) None (Some x)) (number_at digits)
+number_behind digits = option_and_then (λ x. cond (ltb 4294967295 x.0 || has_leading_zero digits) None (Some x))
+    (number_at digits)
 
 pub spaced_takes : (bytes : List ℕ) (n : ℕ) (rest : List ℕ) → spaced_at bytes ≡ Some (n, rest) → TakesSpaced bytes n rest
 unfolding spaced_at number_behind
 spaced_takes bytes n rest e =
     let space = and_then_some number_behind (space_at bytes) (n, rest) e in
-    let number = and_then_some (λ x. cond (ltb 4294967295 x.0 || has_leading_zero space.0) None (Some x)) (number_at space.0) (n, rest) space.2 in
+    let number = and_then_some (λ x. cond (ltb 4294967295 x.0 || has_leading_zero space.0) None (Some x)) (number_at space.0)
+    (n, rest) space.2 in
     let test = passed (ltb 4294967295 number.0.0) (has_leading_zero space.0) number.0 (n, rest) number.2 in
     let read : number_at space.0 ≡ Some (n, rest) = number.1 ∙ ap (λ (x : ℕ × List ℕ). Some x) test.2 in
     let same : number.0.0 ≡ n = ap (λ (x : ℕ × List ℕ). x.0) test.2 in
@@ -114,9 +131,17 @@ begins (n ∷ ns) rest ends = subst BeginsWithoutDigit (sym (regroup spaced n ns
 
 spaced_chain : (ns rest : List ℕ) → AreSmall ns → BeginsWithoutDigit rest → Chain TakesSpaced (flat_map spaced ns ++ rest) ns rest
 spaced_chain [] rest small ends = refl
-spaced_chain (n ∷ ns) rest small ends =
-    (flat_map spaced ns ++ rest, record { small = small.0; parts = regroup spaced n ns rest; ends = begins ns rest ends }, spaced_chain ns rest small.1 ends)
+spaced_chain (n ∷ ns) rest small ends = (
+  flat_map spaced ns ++ rest,
+  record {
+    small = small.0;
+    parts = regroup spaced n ns rest;
+    ends = begins ns rest ends;
+  },
+  spaced_chain ns rest small.1 ends,
+)
 
 -- numbers with no number behind them
-pub spaced_all : (ns rest : List ℕ) → AreSmall ns → BeginsWithoutDigit rest → TakesNone TakesSpaced rest → TakesAll TakesSpaced (flat_map spaced ns ++ rest) ns rest
+pub spaced_all : (ns rest : List ℕ) → AreSmall ns → BeginsWithoutDigit rest → TakesNone TakesSpaced rest
+    → TakesAll TakesSpaced (flat_map spaced ns ++ rest) ns rest
 spaced_all ns rest small ends none = record { taken = spaced_chain ns rest small ends; ends = none }

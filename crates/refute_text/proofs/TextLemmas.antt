@@ -11,7 +11,14 @@ use Rattle.refute_text.proofs.LineLemmas.{line_one}
 
 lines_chain : (lines : List Line) (rest : List ℕ) → AreLines lines → Chain TakesLine (refutation_text lines ++ rest) lines rest
 lines_chain [] rest are = refl
-lines_chain (line ∷ lines) rest are = (refutation_text lines ++ rest, record { is_line = are.0; parts = regroup line_text line lines rest }, lines_chain lines rest are.1)
+lines_chain (line ∷ lines) rest are = (
+  refutation_text lines ++ rest,
+  record {
+    is_line = are.0;
+    parts = regroup line_text line lines rest;
+  },
+  lines_chain lines rest are.1,
+)
 
 pub line_is_some : (bytes : List ℕ) (line : Line) (rest : List ℕ) → TakesLine bytes line rest → length rest < length bytes
 line_is_some bytes line rest t =
@@ -25,12 +32,14 @@ nothing_left = λ line rest t. let less = line_is_some [] line rest t in absurd 
 -- all of a text is taken
 whole : (lines : List Line) (bytes : List ℕ) → AreLines lines → bytes ≡ refutation_text lines → TakesAll TakesLine bytes lines []
 whole lines bytes are e =
-    subst (λ (s : List ℕ). TakesAll TakesLine s lines []) (append-nil (refutation_text lines) ∙ sym e) (record { taken = lines_chain lines [] are; ends = nothing_left })
+    subst (λ (s : List ℕ). TakesAll TakesLine s lines []) (append-nil (refutation_text lines)
+    ∙ sym e) (record { taken = lines_chain lines [] are; ends = nothing_left })
 
 -- what stands before the first line that is none
 before : (bytes : List ℕ) (at : ℕ) (bad : IsFirstBadLine bytes at) → TakesAll TakesLine bytes bad.lines bad.rest
 before bytes at bad =
-    subst (λ (s : List ℕ). TakesAll TakesLine s bad.lines bad.rest) (sym bad.parts) (record { taken = lines_chain bad.lines bad.rest bad.are_lines; ends = bad.none })
+    subst (λ (s : List ℕ). TakesAll TakesLine s bad.lines bad.rest) (sym bad.parts)
+    (record { taken = lines_chain bad.lines bad.rest bad.are_lines; ends = bad.none })
 
 pub text_one : (bytes : List ℕ) (a b : List Line) → Spells bytes a → Spells bytes b → a ≡ b
 text_one bytes a b g h =
@@ -51,13 +60,15 @@ not_bad bytes lines at spells bad =
 
 -- ---- as the reader goes
 
-abbrev spelled : (bytes : List ℕ) (lines : List Line) (rest : List ℕ) → Chain TakesLine bytes lines rest → bytes ≡ refutation_text lines ++ rest
+abbrev spelled : (bytes : List ℕ) (lines : List Line) (rest : List ℕ) → Chain TakesLine bytes lines rest
+    → bytes ≡ refutation_text lines ++ rest
 spelled bytes lines rest taken = Chain-spelled TakesLine line_text (λ s line t h. h.parts) bytes lines rest taken
 
 are_lines : (bytes : List ℕ) (lines : List Line) (rest : List ℕ) → Chain TakesLine bytes lines rest → AreLines lines
 are_lines bytes lines rest taken = Chain-good TakesLine IsLine (λ s line t h. h.is_line) bytes lines rest taken
 
-pub bad_place : (bytes : List ℕ) (lines : List Line) (rest : List ℕ) (at : ℕ) → Chain TakesLine bytes lines rest → 0 < length rest → TakesNone TakesLine rest
+pub bad_place : (bytes : List ℕ) (lines : List Line) (rest : List ℕ) (at : ℕ) → Chain TakesLine bytes lines rest → 0 < length rest
+    → TakesNone TakesLine rest
     → at ≡ length bytes - length rest → IsFirstBadLine bytes at
 bad_place bytes lines rest at taken some none place =
     let parts = spelled bytes lines rest taken in
@@ -89,5 +100,7 @@ pub only_text : (bytes : List ℕ) (lines : List Line) (rest : List ℕ) → Cha
 only_text bytes lines rest taken ended others spells =
     text_one bytes lines others (is_text bytes lines rest taken ended) spells
 
-pub not_longer : (bytes : List ℕ) (lines : List Line) (rest : List ℕ) → Chain TakesLine bytes lines rest → length rest ≤ length bytes
-not_longer bytes lines rest taken = omega (arith, ap length (spelled bytes lines rest taken), length-append (refutation_text lines) rest)
+pub not_longer : (bytes : List ℕ) (lines : List Line) (rest : List ℕ) → Chain TakesLine bytes lines rest
+    → length rest ≤ length bytes
+not_longer bytes lines rest taken =
+    omega (arith, ap length (spelled bytes lines rest taken), length-append (refutation_text lines) rest)

@@ -16,7 +16,8 @@ abbrev pub TakesNone : {X : Type 0} → (List ℕ → X → List ℕ → Type 0)
 TakesNone {X} Takes bytes = (x : X) (rest : List ℕ) → Takes bytes x rest → ⊥
 
 -- all of the form that stand at the front
-pub record TakesAll {X : Type 0} (Takes : List ℕ → X → List ℕ → Type 0) (bytes : List ℕ) (xs : List X) (rest : List ℕ) : Type 0 where
+pub record TakesAll {X : Type 0} (Takes : List ℕ → X → List ℕ → Type 0) (bytes : List ℕ)
+    (xs : List X) (rest : List ℕ) : Type 0 where
   pub taken : Chain Takes bytes xs rest
   pub ends : TakesNone Takes rest
 
@@ -28,4 +29,5 @@ has_leading_zero (b ∷ c ∷ bytes) = b == 48 && is_digit c
 
 -- the number behind the space at the front, if it is written so, and what follows it
 unfoldable pub spaced_at : List ℕ → Option (ℕ × List ℕ)
-spaced_at bytes = option_and_then (λ digits. option_and_then (λ x. if nat_lt 4294967295 x.0 || has_leading_zero digits then None else Some x) (number_at digits)) (space_at bytes)
+spaced_at bytes = option_and_then (λ digits. option_and_then (λ x. if nat_lt 4294967295 x.0
+    || has_leading_zero digits then None else Some x) (number_at digits)) (space_at bytes)

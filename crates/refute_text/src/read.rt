@@ -15,7 +15,8 @@ use std::alloc::Global;
 /// memory for 2^32 lines, nor for a line with as many hints.
 pub fn read_lines(alloc: Global, bytes: &[u8]) -> Result<Lines, OrMemory<Bad>>
     ensures found { IfOk result (Spells bytes.now) }
-    ensures only { (lines : List Line) → Spells bytes.now lines → IfOk result (λ read. read ≡ lines) }
+    ensures only { (lines : List Line) → Spells bytes.now lines
+        → IfOk result (λ read. read ≡ lines) }
     ensures not_refused { (lines : List Line) → Spells bytes.now lines → IfRefused result (λ _. ⊥) }
     ensures refused { IfRefused result (λ bad. IsFirstBadLine bytes.now bad.at) }
 {

@@ -19,7 +19,8 @@ use Rattle.std.proofs.lemmas.Bool.{false_from_ne_true}
 use Rattle.sat_plain.proofs.AssumedLemmas.{one_open, assumed_is_negated, stays_assumed, negated_is_assumed, length_assumed}
 
 -- the walk at a place that is resolved
-record Resolving (vars : ℕ) (clauses : List (List ℕ)) (trail : List ℕ) (p l number : ℕ) (clause : List ℕ) (d : Derived) : Type 0 where
+record Resolving (vars : ℕ) (clauses : List (List ℕ)) (trail : List ℕ) (p l number : ℕ) (clause : List ℕ)
+    (d : Derived) : Type 0 where
   there : slice_get trail p ≡ Some l
   given : slice_get clauses number ≡ Some clause
   up : IsStrictlyIncreasing clause
@@ -112,7 +113,8 @@ module _ (vars : ℕ) (clauses : List (List ℕ)) (trail : List ℕ) (p l number
       ∙ stays_assumed clause d.marks (negated m) (h.derived.marked m has)
 
   module _ (row : List Bool)
-      (ready : IsReady trail p (record { marks = resolved_marks clause l d.marks; lits = d.lits; hints = d.hints ++ number ∷ [] }) row) where
+      (ready : IsReady trail p (record { marks = resolved_marks clause l d.marks; lits = d.lits; hints = d.hints ++ number ∷ [] })
+      row) where
     wrong : (m : ℕ) → Contains clause m → (m ≡ l → ⊥) → bit row (negated m) ≡ true
     wrong m has other =
         let below : Contains (take p trail) (negated m) = h.reason.others m has other in
@@ -184,7 +186,11 @@ pub resolved : (vars : ℕ) (clauses : List (List ℕ)) (trail : List ℕ) (p l 
     → slice_get trail p ≡ Some l → slice_get clauses number ≡ Some clause → IsStrictlyIncreasing clause
     → IsReason (take p trail) l clause → IsWalked vars trail → IsDerived vars clauses trail (p + 1) d
     → IsDerived vars clauses trail p
-    (record { marks = set (set (assumed clause d.marks) l false) (negated l) false; lits = d.lits; hints = d.hints ++ number ∷ [] })
+    (record {
+      marks = set (set (assumed clause d.marks) l false) (negated l) false;
+      lits = d.lits;
+      hints = d.hints ++ number ∷ [];
+    })
 resolved vars clauses trail p l number clause d there given up reason walked derived =
     let h : Resolving vars clauses trail p l number clause d =
     record { there = there; given = given; up = up; reason = reason; walked = walked; derived = derived } in

@@ -54,7 +54,8 @@ log_push vars clauses all lines line e h = record {
 -- ---- a line that was learnt
 
 -- the line is accepted, and came last
-pub record IsLogged (vars : ℕ) (lines : List Line) (clauses : Numbering) (line : Line) (lines' : List Line) (clauses' : Numbering) : Type 0 where
+pub record IsLogged (vars : ℕ) (lines : List Line) (clauses : Numbering) (line : Line) (lines' : List Line)
+    (clauses' : Numbering) : Type 0 where
   pub accepted : refusal vars clauses.list line.clause line.hints ≡ None
   pub list : clauses'.list ≡ clauses.list ++ line.clause ∷ []
   pub log : lines' ≡ lines ++ line ∷ []
@@ -152,8 +153,12 @@ low_literals places assumed clause (Some q) h low m has =
     ]
 
 negations_have : (clause : List ℕ) (m : ℕ) → Contains clause m → Contains (map negated clause) (negated m)
-negations_have clause m has =
-    (has.0, omega (arith, has.1, length-map clause negated), get_or-map negated clause has.0 m (negated m) has.1 ∙ ap negated has.2)
+negations_have clause m has = (
+  has.0,
+  omega (arith, has.1, length-map clause negated),
+  get_or-map negated clause has.0 m (negated m) has.1
+      ∙ ap negated has.2,
+)
 
 pub core_of : (places : List Place) (assumed number : ℕ) (clause core : List ℕ) (list : List (List ℕ)) (last : Option ℕ)
     → IsLast places 0 clause last → IsChoice last assumed None → core ≡ map negated clause

@@ -19,7 +19,8 @@ use Rattle.sat_plain.specs.Turns.{IsCore, IsModel, IsFurther}
 abbrev pub IsTurned : ℕ → ℕ → List Place → List Place → List (List ℕ) → Outcome → Type 0
 IsTurned vars assumed before after clauses GoesOn = IsFurther vars before after
 IsTurned vars assumed before after clauses (Meets row) = IsModel vars clauses (lits_of after) row
-IsTurned vars assumed before after clauses (Refutes core) = IsCore (take assumed (lits_of after)) clauses core
+IsTurned vars assumed before after clauses (Refutes core) =
+    IsCore (take assumed (lits_of after)) clauses core
 IsTurned vars assumed before after clauses Spent = ⊤
 IsTurned vars assumed before after clauses Stopped = ⊤
 IsTurned vars assumed before after clauses Memory = ⊤
@@ -47,7 +48,8 @@ OnTurnStopped Stopped P = P
 OnTurnStopped Memory P = ⊤
 
 -- the literals of the core are among these, and the lines show that no row meets them
-pub record IsRefutation (vars : ℕ) (clauses : List (List ℕ)) (lits : List ℕ) (refuted : Refuted) : Type 0 where
+pub record IsRefutation (vars : ℕ) (clauses : List (List ℕ)) (lits : List ℕ)
+    (refuted : Refuted) : Type 0 where
   pub part : All (Contains lits) refuted.core
   pub accepted : AreAccepted vars clauses refuted.lines
   pub covered : is_covered (with_lines clauses refuted.lines) refuted.core ≡ true
@@ -62,5 +64,7 @@ IsFound vars clauses lits answer.Memory = ⊤
 
 -- with one unit spent before the search, it is ticked as a query is, and by one unit more than it has lines
 abbrev pub IsFoundTicked : Meter → Meter → SatAnswer → Type 0
-IsFoundTicked before now found = (start : Meter) → (start.limit ≡ Some start.spent → ⊥) → Spends start before 1
-    → IsTicked start now found × OnUnsat found (λ refuted. SpendsAtLeast start now (1 + length refuted.lines))
+IsFoundTicked before now found = (start : Meter) → (start.limit ≡ Some start.spent → ⊥)
+    → Spends start before 1
+    → IsTicked start now found
+    × OnUnsat found (λ refuted. SpendsAtLeast start now (1 + length refuted.lines))

@@ -14,7 +14,8 @@ pub record Closes (vars : ℕ) (clauses : List (List ℕ)) (under core : List �
   pub refuted : IsRefuted vars clauses core
 
 -- some row meets the clauses and `under`, and has the bits of this row, as far as both reach
-pub record IsFront (vars : ℕ) (clauses : List (List ℕ)) (under : List ℕ) (row : List Bool) : Type 0 where
+pub record IsFront (vars : ℕ) (clauses : List (List ℕ)) (under : List ℕ)
+    (row : List Bool) : Type 0 where
   pub whole : List Bool
   pub meets : Satisfies vars clauses under whole
   pub same : (u : ℕ) → u < length row → u < vars → bit row u ≡ bit whole u

@@ -15,8 +15,10 @@ pub record IsConflict (clauses : List (List ℕ)) (lits : List ℕ) (n : ℕ) : 
 
 -- the clause of number n is false, or the literal that it forces, if it forces one, became true
 abbrev pub IsExamined : List (List ℕ) → ℕ → Assigned → Assigned → Found → Type 0
-IsExamined clauses n before after False = (after ≡ before) × IsConflict clauses (lits_of after.places) n
-IsExamined clauses n before after (Forces l) = after.places ≡ before.places ++ record { lit = l; reason = Some n } ∷ []
+IsExamined clauses n before after False = (after ≡ before)
+    × IsConflict clauses (lits_of after.places) n
+IsExamined clauses n before after (Forces l) = after.places ≡ before.places
+    ++ record { lit = l; reason = Some n } ∷ []
 IsExamined clauses n before after Other = after ≡ before
 
 -- a conflict, or some literal became true, or each clause is quiet
@@ -29,4 +31,5 @@ IsPassed clauses before after Quiet = IsQuiet clauses after.values
 abbrev pub IsAdvanced : List (List ℕ) → Assigned → Assigned → Progress → Type 0
 IsAdvanced clauses before after (Conflict n) = IsConflict clauses (lits_of after.places) n
 IsAdvanced clauses before after Moved = length before.places < length after.places
-IsAdvanced clauses before after Quiet = IsQuiet clauses after.values × IsFull after.vars after.values
+IsAdvanced clauses before after Quiet = IsQuiet clauses after.values
+    × IsFull after.vars after.values

@@ -33,7 +33,8 @@ pub record IsGranted (before now : Meter) : Type 0 where
 -- lines than units; want of memory may come before.
 abbrev pub IsTicked : Meter → Meter → SatAnswer → Type 0
 IsTicked before now (Sat row) = IsGranted before now × SpendsAtLeast before now 1
-IsTicked before now (Unsat refuted) = IsGranted before now × SpendsAtLeast before now 1 × SpendsAtLeast before now (length refuted.lines)
+IsTicked before now (Unsat refuted) = IsGranted before now × SpendsAtLeast before now 1
+    × SpendsAtLeast before now (length refuted.lines)
 IsTicked before now Spent = IsRefused before now
 IsTicked before now Stopped = IsGranted before now × SpendsAtLeast before now 1
 IsTicked before now Memory = now.refused ≡ before.refused

@@ -13,7 +13,8 @@ use Rattle.sat_plain.specs.Trails.{AreForced, lits_of, kinds_of}
 use Rattle.sat_plain.specs.Rank.{rank}
 
 -- each line is accepted over the clauses and the lines before it, and `all` has the clauses and then those of the lines
-pub record IsLog (vars : ℕ) (clauses : List (List ℕ)) (lines : List Line) (all : List (List ℕ)) : Type 0 where
+pub record IsLog (vars : ℕ) (clauses : List (List ℕ)) (lines : List Line)
+    (all : List (List ℕ)) : Type 0 where
   pub accepted : AreAccepted vars clauses lines
   pub is : all ≡ with_lines clauses lines
 
@@ -25,7 +26,8 @@ pub record IsExtended (before after : Numbering) : Type 0 where
   pub kept : after.kept ≡ before.kept
 
 -- the clauses are over the variables, each place is forced or decided, and the lowest ones, `assumed` many, are there
-pub record IsSearch (vars assumed : ℕ) (places : List Place) (clauses : List (List ℕ)) : Type 0 where
+pub record IsSearch (vars assumed : ℕ) (places : List Place)
+    (clauses : List (List ℕ)) : Type 0 where
   pub below : All (IsBelow vars) clauses
   pub forced : AreForced clauses places
   pub base : assumed ≤ length places
@@ -35,7 +37,8 @@ pub record IsNext (vars assumed : ℕ) (places : List Place) (lines : List Line)
     (places' : List Place) (lines' : List Line) (clauses' : Numbering) : Type 0 where
   pub search : IsSearch vars assumed places' clauses'.list
   pub base : take assumed places' ≡ take assumed places
-  pub log : (given : List (List ℕ)) → IsLog vars given lines clauses.list → IsLog vars given lines' clauses'.list
+  pub log : (given : List (List ℕ)) → IsLog vars given lines clauses.list
+      → IsLog vars given lines' clauses'.list
   pub store : IsExtended clauses clauses'
   pub few : length lines' ≤ length lines + 1
 
@@ -46,7 +49,8 @@ IsUnderWay query clauses = IsSearch query.trail.vars query.assumed query.trail.p
 -- what stays over a turn, of query and clauses
 abbrev pub Continues : Query → Numbering → Query → Numbering → Type 0
 Continues before clauses after clauses' =
-    IsNext before.trail.vars before.assumed before.trail.places before.lines clauses after.trail.places after.lines clauses'
+    IsNext before.trail.vars before.assumed before.trail.places before.lines clauses
+    after.trail.places after.lines clauses'
 
 -- literals out of these that contradict the clauses at once
 pub record IsCore (lits : List ℕ) (clauses : List (List ℕ)) (core : List ℕ) : Type 0 where
@@ -54,7 +58,8 @@ pub record IsCore (lits : List ℕ) (clauses : List (List ℕ)) (core : List ℕ
   pub covered : is_covered clauses core ≡ true
 
 -- the row meets the clauses and these literals
-pub record IsModel (vars : ℕ) (clauses : List (List ℕ)) (lits : List ℕ) (row : List Bool) : Type 0 where
+pub record IsModel (vars : ℕ) (clauses : List (List ℕ)) (lits : List ℕ)
+    (row : List Bool) : Type 0 where
   pub width : length row ≡ vars
   pub clauses_hold : AllSatisfiedBy (value row) clauses
   pub lits_hold : (l : ℕ) → Contains lits l → value row l ≡ true

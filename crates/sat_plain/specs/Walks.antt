@@ -19,7 +19,8 @@ IsLast places p lits None = lits ≡ []
 IsLast places p lits (Some q) = (p ≤ q) × IsCut places q lits
 
 -- the walk stands at place p
-pub record IsWalking (vars : ℕ) (clauses : List (List ℕ)) (places : List Place) (p : ℕ) (d : Derived) (last : Option ℕ) : Type 0 where
+pub record IsWalking (vars : ℕ) (clauses : List (List ℕ)) (places : List Place) (p : ℕ)
+    (d : Derived) (last : Option ℕ) : Type 0 where
   pub derived : IsDerived vars clauses (lits_of places) p d
   pub highest : IsLast places p d.lits last
 

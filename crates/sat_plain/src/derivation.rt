@@ -29,7 +29,11 @@ impl Model for Derivation {
 
     ghost Value = { Derived };
 
-    ghost view = { λ a. record { marks = a.marks.items; lits = a.lits.items; hints = a.hints.items } };
+    ghost view = { λ a. record {
+      marks = a.marks.items;
+      lits = a.lits.items;
+      hints = a.hints.items;
+    } };
 
     ghost invariant = { λ a. length a.hints.items < 2 ^ 32 };
 }

@@ -27,9 +27,14 @@ impl Model for Trail {
 
     ghost Value = { Assigned };
 
-    ghost view = { λ a. record { vars = a.vars; values = a.values.items; places = a.places.items } };
+    ghost view = { λ a. record {
+      vars = a.vars;
+      values = a.values.items;
+      places = a.places.items;
+    } };
 
-    ghost invariant = { λ a. IsTrail a.vars a.values.items (lits_of a.places.items) × (a.vars ≤ vec_capacity a.places)
+    ghost invariant = { λ a. IsTrail a.vars a.values.items (lits_of a.places.items)
+        × (a.vars ≤ vec_capacity a.places)
         × (a.vars ≤ 2 ^ 31) };
 }
 

@@ -27,10 +27,12 @@ use Rattle.store_core.proofs.Reasons.{Grows}
 use Rattle.store_core.proofs.NextBoards.{IsNext, next_board, unmarked, marked, mark_set, mark_stays, fail_later, none_of_free, shown_new, shown_later}
 
 -- the state and the entry are those behind the event
-pub board_behind : (covers : Problem → List (List ℕ) → ℕ → Type 0) (bound : Problem → ℕ) (t : Problem) (o : Opening) (s next : State)
+pub board_behind : (covers : Problem → List (List ℕ) → ℕ
+    → Type 0) (bound : Problem → ℕ) (t : Problem) (o : Opening) (s next : State)
     (failures more : List Failure) (journal after : List Entry) (seat : ℕ) (event : Event) (e : Entry)
     → IsBoard covers bound t o s failures journal → next ≡ state_after o s (kept s event) → e ≡ entry_of o s seat event
-    → after ≡ journal ++ e ∷ [] → IsNext covers bound t o s next failures more journal e → IsBoard covers bound t o next more after
+    → after ≡ journal ++ e ∷ [] → IsNext covers bound t o s next failures more journal e
+    → IsBoard covers bound t o next more after
 board_behind covers bound t o s next failures more journal after seat event e b next_is entry_is after_is h =
     let P : State → Type 0 = λ n. IsNext covers bound t o s n failures more journal e in
     let Q : Entry → Type 0 = λ x. IsNext covers bound t o s (state_after o s (kept s event)) failures more journal x in
@@ -77,7 +79,8 @@ gave_up (Some had) cancel e = absurd (false≢true e)
 gave_up None None e = absurd (false≢true e)
 gave_up None (Some q) e = record { free = refl; cause = q; cause_is = refl }
 
-not_given_up : (m : Option Mark) (cancel : Option ℕ) (s : State) (p : ℕ) → (is_none m && is_some cancel) ≡ false → s ≡ given_up m cancel s p
+not_given_up : (m : Option Mark) (cancel : Option ℕ) (s : State) (p : ℕ) → (is_none m && is_some cancel) ≡ false
+    → s ≡ given_up m cancel s p
 not_given_up (Some had) cancel s p e = refl
 not_given_up None None s p e = refl
 not_given_up None (Some q) s p e = absurd (false≢true (sym e))
@@ -96,24 +99,33 @@ module _ (o : Opening) (s : State) (seat : ℕ) where
   publish_state more part is = ap (λ xs. record s { clauses = xs }) (grown more part is)
 
   pub publish_entry : (more part added : List (List ℕ)) (upto : ℕ) → more ≡ joined s.clauses part → added ≡ fresh s.clauses part
-      → upto ≡ length more → record { seat = seat; event = Publish added; reply = reply.Added upto } ≡ entry_of o s seat (Publish part)
+      → upto ≡ length more → record { seat = seat; event = Publish added; reply = reply.Added upto } ≡ entry_of o s seat
+      (Publish part)
   publish_entry more part added upto is new count =
       ap (λ xs. record { seat = seat; event = Publish xs; reply = reply.Added upto }) new
-      ∙ ap (λ n. record { seat = seat; event = Publish (fresh s.clauses part); reply = reply.Added n }) (count_grown more part upto is count)
+      ∙ ap (λ n. record { seat = seat; event = Publish (fresh s.clauses part); reply = reply.Added n })
+      (count_grown more part upto is count)
 
   pub prove_state : (p : ℕ) (more part : List (List ℕ)) → mark_of s.marks p ≡ None → more ≡ joined s.clauses part
-      → record s { clauses = more; marks = slice_set s.marks p (Some mark.Proved) } ≡ state_after o s (kept s (Settle p mark.Proved part))
+      → record s { clauses = more; marks = slice_set s.marks p (Some mark.Proved) } ≡ state_after o s
+      (kept s (Settle p mark.Proved part))
   prove_state p more part free is =
       ap (λ xs. record s { clauses = xs; marks = slice_set s.marks p (Some mark.Proved) }) (grown more part is)
       ∙ ap (λ (x : Option Mark). settled x s p mark.Proved (settled_clauses x mark.Proved s.clauses part)) (sym free)
 
   pub prove_entry : (p : ℕ) (more part added : List (List ℕ)) (upto : ℕ) → mark_of s.marks p ≡ None → more ≡ joined s.clauses part
       → added ≡ fresh s.clauses part → upto ≡ length more
-      → record { seat = seat; event = Settle p mark.Proved added; reply = reply.Settled upto } ≡ entry_of o s seat (Settle p mark.Proved part)
+      → record { seat = seat; event = Settle p mark.Proved added; reply = reply.Settled upto } ≡ entry_of o s seat
+      (Settle p mark.Proved part)
   prove_entry p more part added upto free is new count =
       ap (λ xs. record { seat = seat; event = Settle p mark.Proved xs; reply = reply.Settled upto }) new
-      ∙ ap (λ n. record { seat = seat; event = Settle p mark.Proved (fresh s.clauses part); reply = reply.Settled n }) (count_grown more part upto is count)
-      ∙ ap (λ (x : Option Mark). record { seat = seat; event = Settle p mark.Proved (settled_clauses x mark.Proved s.clauses part); reply = settle_reply x (length s.clauses + length (settled_clauses x mark.Proved s.clauses part)) }) (sym free)
+      ∙ ap (λ n. record { seat = seat; event = Settle p mark.Proved (fresh s.clauses part); reply = reply.Settled n })
+      (count_grown more part upto is count)
+      ∙ ap (λ (x : Option Mark). record {
+        seat = seat;
+        event = Settle p mark.Proved (settled_clauses x mark.Proved s.clauses part);
+        reply = settle_reply x (length s.clauses + length (settled_clauses x mark.Proved s.clauses part));
+      }) (sym free)
 
   pub settles_plainly : (p : ℕ) (m : Mark) (upto : ℕ) → mark_of s.marks p ≡ None → upto ≡ length s.clauses
       → settled_clauses None m s.clauses [] ≡ []
@@ -121,8 +133,16 @@ module _ (o : Opening) (s : State) (seat : ℕ) where
   settles_plainly p m upto free count same =
       let none : length s.clauses ≡ length s.clauses + 0 = omega arith in
       ap (λ n. record { seat = seat; event = Settle p m []; reply = reply.Settled n }) (count ∙ none)
-      ∙ ap (λ (xs : List (List ℕ)). record { seat = seat; event = Settle p m xs; reply = reply.Settled (length s.clauses + length xs) }) (sym same)
-      ∙ ap (λ (x : Option Mark). record { seat = seat; event = Settle p m (settled_clauses x m s.clauses []); reply = settle_reply x (length s.clauses + length (settled_clauses x m s.clauses [])) }) (sym free)
+      ∙ ap (λ (xs : List (List ℕ)). record {
+        seat = seat;
+        event = Settle p m xs;
+        reply = reply.Settled (length s.clauses + length xs);
+      }) (sym same)
+      ∙ ap (λ (x : Option Mark). record {
+        seat = seat;
+        event = Settle p m (settled_clauses x m s.clauses []);
+        reply = settle_reply x (length s.clauses + length (settled_clauses x m s.clauses []));
+      }) (sym free)
 
   pub marks_plainly : (p : ℕ) (m : Mark) → mark_of s.marks p ≡ None → settled_clauses None m s.clauses [] ≡ []
       → record s { marks = slice_set s.marks p (Some m) } ≡ state_after o s (kept s (Settle p m []))
@@ -132,7 +152,8 @@ module _ (o : Opening) (s : State) (seat : ℕ) where
       ∙ ap (λ (x : Option Mark). settled x s p m (settled_clauses x m s.clauses [])) (sym free)
 
 module _ (covers : Problem → List (List ℕ) → ℕ → Type 0) (bound : Problem → ℕ) (grows : Grows covers) (t : Problem) (o : Opening)
-    (s : State) (failures : List Failure) (journal after : List Entry) (seat : ℕ) (b : IsBoard covers bound t o s failures journal) where
+    (s : State) (failures : List Failure) (journal after : List Entry) (seat : ℕ)
+    (b : IsBoard covers bound t o s failures journal) where
   -- there is a place for the mark of each property
   in_range : (p : ℕ) → p < length o.assumed → p < length s.marks
   in_range p h = let P : ℕ → Type 0 = λ n. p < n in subst P (b.opens.width ∙ sym b.width) h
@@ -187,7 +208,8 @@ module _ (covers : Problem → List (List ℕ) → ℕ → Type 0) (bound : Prob
       let e : Entry = record { seat = seat; event = Publish added; reply = reply.Added upto } in
       let entry_is : e ≡ entry_of o s seat (Publish part) = publish_entry o s seat more part added upto is new count in
       let next_is : record s { clauses = more } ≡ state_after o s (kept s (Publish part)) = publish_state o s seat more part is in
-      board_behind covers bound t o s (record s { clauses = more }) failures failures journal after seat (Publish part) e b next_is entry_is after_is
+      board_behind covers bound t o s (record s { clauses = more }) failures failures journal after seat
+      (Publish part) e b next_is entry_is after_is
       (unmarked covers bound grows t o s (record s { clauses = more }) failures journal e b refl (longer_part more part is)
       (λ q stands. inl stands) refl)
 
@@ -199,7 +221,11 @@ module _ (covers : Problem → List (List ℕ) → ℕ → Type 0) (bound : Prob
   keeps_mark p had m stands after_is =
       let e : Entry = record { seat = seat; event = Settle p m []; reply = reply.Had had } in
       let entry_is : e ≡ entry_of o s seat (Settle p m []) =
-      ap (λ (x : Option Mark). record { seat = seat; event = Settle p m (settled_clauses x m s.clauses []); reply = settle_reply x (length s.clauses + length (settled_clauses x m s.clauses [])) }) (sym stands) in
+      ap (λ (x : Option Mark). record {
+        seat = seat;
+        event = Settle p m (settled_clauses x m s.clauses []);
+        reply = settle_reply x (length s.clauses + length (settled_clauses x m s.clauses []));
+      }) (sym stands) in
       let next_is : s ≡ state_after o s (kept s (Settle p m [])) =
       ap (λ (x : Option Mark). settled x s p m (settled_clauses x m s.clauses [])) (sym stands) in
       quiet s (Settle p m []) e next_is entry_is refl refl refl (failed_by_had p m had) after_is
@@ -221,7 +247,8 @@ module _ (covers : Problem → List (List ℕ) → ℕ → Type 0) (bound : Prob
         fails = facts.1;
       } in
       let P : ℕ → Type 0 = λ q. IsStopped o (record s { cancel = Some p }) (journal ++ e ∷ []) q in
-      board_behind covers bound t o s (record s { cancel = Some p }) failures failures journal after seat (Cancel p) e b next_is entry_is after_is
+      board_behind covers bound t o s (record s { cancel = Some p }) failures failures journal after seat (Cancel p) e b next_is
+      entry_is after_is
       (unmarked covers bound grows t o s (record s { cancel = Some p }) failures journal e b refl (all_kept s.clauses)
       (λ q stands. inr (subst P (same_Some p q stands) here)) refl)
 
@@ -255,7 +282,8 @@ module _ (covers : Problem → List (List ℕ) → ℕ → Type 0) (bound : Prob
       let e : Entry = record { seat = seat; event = GiveUp p; reply = r } in
       let entry_is : e ≡ entry_of o s seat (GiveUp p) = ap (λ x. record { seat = seat; event = GiveUp p; reply = x }) is in
       let facts : GivesUp (mark_of s.marks p) s.cancel = gave_up (mark_of s.marks p) s.cancel goes in
-      let gave : r ≡ reply.GaveUp = is ∙ ap (λ m. give_up_reply m s.cancel) facts.free ∙ ap (λ c. give_up_reply None c) facts.cause_is in
+      let gave : r ≡ reply.GaveUp = is ∙ ap (λ m. give_up_reply m s.cancel) facts.free
+      ∙ ap (λ c. give_up_reply None c) facts.cause_is in
       let next : State = record s { marks = slice_set s.marks p (Some mark.Cancelled) } in
       let next_is : next ≡ state_after o s (kept s (GiveUp p)) =
       ap (λ c. given_up None c s p) (sym facts.cause_is) ∙ ap (λ m. given_up m s.cancel s p) (sym facts.free) in
@@ -293,11 +321,13 @@ module _ (covers : Problem → List (List ℕ) → ℕ → Type 0) (bound : Prob
   proves p more part added upto within free covered is new count after_is =
       let e : Entry = record { seat = seat; event = Settle p mark.Proved added; reply = reply.Settled upto } in
       let next : State = record s { clauses = more; marks = slice_set s.marks p (Some mark.Proved) } in
-      let entry_is : e ≡ entry_of o s seat (Settle p mark.Proved part) = prove_entry o s seat p more part added upto free is new count in
+      let entry_is : e ≡ entry_of o s seat (Settle p mark.Proved part) =
+      prove_entry o s seat p more part added upto free is new count in
       let next_is : next ≡ state_after o s (kept s (Settle p mark.Proved part)) = prove_state o s seat p more part free is in
       let P : List (List ℕ) → Type 0 = λ xs. All (Contains xs) part in
       let has : All (Contains more) part = subst P (sym is) (joined_has_second s.clauses part) in
-      board_behind covers bound t o s next failures failures journal after seat (Settle p mark.Proved part) e b next_is entry_is after_is
+      board_behind covers bound t o s next failures failures journal after seat (Settle p mark.Proved part) e b next_is entry_is
+      after_is
       (marked covers bound grows t o s next failures failures journal e p mark.Proved b record {
         within = in_range p within;
         free = free;
@@ -316,9 +346,12 @@ module _ (covers : Problem → List (List ℕ) → ℕ → Type 0) (bound : Prob
   spends p n upto within free limit count after_is =
       let e : Entry = record { seat = seat; event = Settle p (mark.Budget n) []; reply = reply.Settled upto } in
       let next : State = record s { marks = slice_set s.marks p (Some (mark.Budget n)) } in
-      let entry_is : e ≡ entry_of o s seat (Settle p (mark.Budget n) []) = settles_plainly o s seat p (mark.Budget n) upto free count refl in
-      let next_is : next ≡ state_after o s (kept s (Settle p (mark.Budget n) [])) = marks_plainly o s seat p (mark.Budget n) free refl in
-      board_behind covers bound t o s next failures failures journal after seat (Settle p (mark.Budget n) []) e b next_is entry_is after_is
+      let entry_is : e ≡ entry_of o s seat (Settle p (mark.Budget n) []) =
+      settles_plainly o s seat p (mark.Budget n) upto free count refl in
+      let next_is : next ≡ state_after o s (kept s (Settle p (mark.Budget n) [])) =
+      marks_plainly o s seat p (mark.Budget n) free refl in
+      board_behind covers bound t o s next failures failures journal after seat (Settle p (mark.Budget n) []) e b next_is entry_is
+      after_is
       (marked covers bound grows t o s next failures failures journal e p (mark.Budget n) b record {
         within = in_range p within;
         free = free;
@@ -331,7 +364,8 @@ module _ (covers : Problem → List (List ℕ) → ℕ → Type 0) (bound : Prob
         fail = fail_later s.marks failures p (mark.Budget n) free b.failures_fail;
       })
 
-  pub shows : (p upto : ℕ) (m : Trace) → p < length o.assumed → mark_of s.marks p ≡ None → IsLocalFailure t p m → upto ≡ length s.clauses
+  pub shows : (p upto : ℕ) (m : Trace) → p < length o.assumed → mark_of s.marks p ≡ None → IsLocalFailure t p m
+      → upto ≡ length s.clauses
       → after ≡ journal ++ record { seat = seat; event = Settle p mark.Fails []; reply = reply.Settled upto } ∷ []
       → IsBoard covers bound t o (record s { marks = slice_set s.marks p (Some mark.Fails) })
       (failures ++ record { property = p; stimulus = m } ∷ []) after
@@ -339,9 +373,11 @@ module _ (covers : Problem → List (List ℕ) → ℕ → Type 0) (bound : Prob
       let e : Entry = record { seat = seat; event = Settle p mark.Fails []; reply = reply.Settled upto } in
       let f : Failure = record { property = p; stimulus = m } in
       let next : State = record s { marks = slice_set s.marks p (Some mark.Fails) } in
-      let entry_is : e ≡ entry_of o s seat (Settle p mark.Fails []) = settles_plainly o s seat p mark.Fails upto free count refl in
+      let entry_is : e ≡ entry_of o s seat (Settle p mark.Fails []) =
+      settles_plainly o s seat p mark.Fails upto free count refl in
       let next_is : next ≡ state_after o s (kept s (Settle p mark.Fails [])) = marks_plainly o s seat p mark.Fails free refl in
-      board_behind covers bound t o s next failures (failures ++ f ∷ []) journal after seat (Settle p mark.Fails []) e b next_is entry_is after_is
+      board_behind covers bound t o s next failures (failures ++ f ∷ []) journal after seat (Settle p mark.Fails []) e b next_is
+      entry_is after_is
       (marked covers bound grows t o s next failures (failures ++ f ∷ []) journal e p mark.Fails b record {
         within = in_range p within;
         free = free;

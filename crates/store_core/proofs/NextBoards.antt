@@ -23,16 +23,19 @@ use Rattle.store_core.proofs.Histories.{behind_push, legal_push, failed_push, en
 use Rattle.store_core.proofs.Reasons.{Grows, KeepFails, KeepsShown, cancel_later, justified_later}
 
 -- what an event has to show of its state and failures, where its entry is the last of the journal
-pub record IsNext (covers : Problem → List (List ℕ) → ℕ → Type 0) (bound : Problem → ℕ) (t : Problem) (o : Opening) (s next : State)
+pub record IsNext (covers : Problem → List (List ℕ) → ℕ
+    → Type 0) (bound : Problem → ℕ) (t : Problem) (o : Opening) (s next : State)
     (failures more : List Failure) (journal : List Entry) (entry : Entry) : Type 0 where
   pub width : length next.marks ≡ length s.marks
   pub justified : AreJustified covers bound (evidence t o next more (journal ++ entry ∷ []))
   pub stopped : (q : ℕ) → next.cancel ≡ Some q → IsStopped o next (journal ++ entry ∷ []) q
-  pub failures_are : map (λ (f : Failure). f.property) more ≡ map (λ (f : Failure). f.property) failures ++ failed_by entry.event entry.reply
+  pub failures_are : map (λ (f : Failure). f.property) more ≡ map (λ (f : Failure). f.property) failures
+      ++ failed_by entry.event entry.reply
   pub failures_fail : All (λ (f : Failure). mark_of next.marks f.property ≡ Some Fails) more
 
 module _ (covers : Problem → List (List ℕ) → ℕ → Type 0) (bound : Problem → ℕ) (t : Problem) (o : Opening) (s : State)
-    (failures : List Failure) (journal : List Entry) (seat : ℕ) (event : Event) (b : IsBoard covers bound t o s failures journal) where
+    (failures : List Failure) (journal : List Entry) (seat : ℕ) (event : Event)
+    (b : IsBoard covers bound t o s failures journal) where
   abbrev entry : Entry
   entry = entry_of o s seat event
 
@@ -54,7 +57,8 @@ module _ (covers : Problem → List (List ℕ) → ℕ → Type 0) (bound : Prob
     justified = h.justified;
     stopped = h.stopped;
     failures_are =
-        h.failures_are ∙ ap (λ (ps : List ℕ). ps ++ failed_by entry.event entry.reply) b.failures_are ∙ sym (failed_push journal entry);
+        h.failures_are ∙ ap (λ (ps : List ℕ). ps ++ failed_by entry.event entry.reply) b.failures_are
+        ∙ sym (failed_push journal entry);
     failures_fail = h.failures_fail;
   }
 
@@ -69,7 +73,8 @@ stopped_later o s next journal entry q same h = record {
 }
 
 pub unmarked : (covers : Problem → List (List ℕ) → ℕ → Type 0) (bound : Problem → ℕ) → Grows covers → (t : Problem) (o : Opening)
-    (s next : State) (failures : List Failure) (journal : List Entry) (entry : Entry) → IsBoard covers bound t o s failures journal
+    (s next : State) (failures : List Failure) (journal : List Entry) (entry : Entry)
+    → IsBoard covers bound t o s failures journal
     → next.marks ≡ s.marks → All (Contains next.clauses) s.clauses
     → ((q : ℕ) → next.cancel ≡ Some q → (s.cancel ≡ Some q) ⊎ IsStopped o next (journal ++ entry ∷ []) q)
     → failed_by entry.event entry.reply ≡ [] → IsNext covers bound t o s next failures failures journal entry
@@ -78,7 +83,8 @@ unmarked covers bound grows t o s next failures journal entry b same part cancel
   justified = λ p m marked.
       let old : mark_of s.marks p ≡ Some m = ap (λ marks. mark_of marks p) (sym same) ∙ marked in
       let keeps : KeepFails s.marks next.marks = λ q h. ap (λ marks. mark_of marks q) same ∙ h in
-      justified_later covers bound grows (evidence t o s failures journal) next.clauses failures next.marks entry part keeps p (λ h. h) m
+      justified_later covers bound grows (evidence t o s failures journal) next.clauses failures next.marks entry part keeps p
+      (λ h. h) m
       (b.justified p m old);
   stopped = λ q stands.
       elim (cancel q stands) [
@@ -91,7 +97,8 @@ unmarked covers bound grows t o s next failures journal entry b same part cancel
 
 -- ---- events that set a mark
 
-pub mark_set : (marks : List (Option Mark)) (p : ℕ) (m : Mark) → p < length marks → mark_of (slice_set marks p (Some m)) p ≡ Some m
+pub mark_set : (marks : List (Option Mark)) (p : ℕ) (m : Mark) → p < length marks
+    → mark_of (slice_set marks p (Some m)) p ≡ Some m
 mark_set marks p m within = get_or-set_same marks p (Some m) None within
 
 pub mark_stays : (marks : List (Option Mark)) (p q : ℕ) (m had : Mark) → mark_of marks p ≡ None → mark_of marks q ≡ Some had
@@ -105,17 +112,21 @@ pub none_of_free : (marks : List (Option Mark)) (failures : List Failure) (p : �
     → All (λ (f : Failure). mark_of marks f.property ≡ Some Fails) failures → mark_of marks p ≡ None → stimuli_of p failures ≡ []
 none_of_free marks [] p fail free = refl
 none_of_free marks (f ∷ fs) p fail free =
-    let here : mark_of marks f.property ≡ Some Fails = All-head (λ (f : Failure). mark_of marks f.property ≡ Some Fails) f fs fail in
+    let here : mark_of marks f.property ≡ Some Fails =
+    All-head (λ (f : Failure). mark_of marks f.property ≡ Some Fails) f fs fail in
     let later = none_of_free marks fs p (All-tail (λ (f : Failure). mark_of marks f.property ≡ Some Fails) f fs fail) free in
     let other : f.property ≢ p = λ e. none-some Fails (sym free ∙ ap (λ x. mark_of marks x) (sym e) ∙ here) in
     let test : (f.property == p) ≡ false = grind (arith, nat_tests) in
-    ap (λ keeps. map (λ (g : Failure). g.stimulus) (cond keeps (f ∷ filter (λ (g : Failure). g.property == p) fs) (filter (λ (g : Failure). g.property == p) fs))) test ∙ later
+    ap (λ keeps. map (λ (g : Failure). g.stimulus)
+    (cond keeps (f ∷ filter (λ (g : Failure). g.property == p) fs) (filter (λ (g : Failure). g.property == p) fs))) test
+    ∙ later
 
 pub stimuli_push : (failures : List Failure) (f : Failure) (p : ℕ)
     → stimuli_of p (failures ++ f ∷ []) ≡ stimuli_of p failures ++ stimuli_of p (f ∷ [])
 stimuli_push failures f p =
     ap (map (λ (g : Failure). g.stimulus)) (filter-append (λ (g : Failure). g.property == p) failures (f ∷ []))
-    ∙ map-append (λ (g : Failure). g.stimulus) (filter (λ (g : Failure). g.property == p) failures) (filter (λ (g : Failure). g.property == p) (f ∷ []))
+    ∙ map-append (λ (g : Failure). g.stimulus) (filter (λ (g : Failure). g.property == p) failures)
+    (filter (λ (g : Failure). g.property == p) (f ∷ []))
 
 stimuli_of_one : (f : Failure) (p : ℕ) → f.property ≡ p → stimuli_of p (f ∷ []) ≡ f.stimulus ∷ []
 stimuli_of_one f p e =
@@ -155,7 +166,8 @@ pub fail_later : (marks : List (Option Mark)) (failures : List Failure) (p : ℕ
 fail_later marks failures p m free fail k d h = mark_stays marks p (get_or failures k d).property m Fails free (fail k d h)
 
 -- what an event shows that gives this mark to a property that had none
-pub record IsMarked (covers : Problem → List (List ℕ) → ℕ → Type 0) (bound : Problem → ℕ) (t : Problem) (o : Opening) (s next : State)
+pub record IsMarked (covers : Problem → List (List ℕ) → ℕ
+    → Type 0) (bound : Problem → ℕ) (t : Problem) (o : Opening) (s next : State)
     (failures more : List Failure) (journal : List Entry) (entry : Entry) (p : ℕ) (m : Mark) : Type 0 where
   pub within : p < length s.marks
   pub free : mark_of s.marks p ≡ None
@@ -164,7 +176,8 @@ pub record IsMarked (covers : Problem → List (List ℕ) → ℕ → Type 0) (b
   pub part : All (Contains next.clauses) s.clauses
   pub keeps : (q : ℕ) → (p ≡ q → ⊥) → KeepsShown t failures more q
   pub here : IsJustified covers bound (evidence t o next more (journal ++ entry ∷ [])) p m
-  pub are : map (λ (f : Failure). f.property) more ≡ map (λ (f : Failure). f.property) failures ++ failed_by entry.event entry.reply
+  pub are : map (λ (f : Failure). f.property) more ≡ map (λ (f : Failure). f.property) failures
+      ++ failed_by entry.event entry.reply
   pub fail : All (λ (f : Failure). mark_of (slice_set s.marks p (Some m)) f.property ≡ Some Fails) more
 
 module _ (covers : Problem → List (List ℕ) → ℕ → Type 0) (bound : Problem → ℕ) (grows : Grows covers) (t : Problem) (o : Opening)

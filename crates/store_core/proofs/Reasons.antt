@@ -40,9 +40,17 @@ cancel_later journal q last h = record {
 -- the evidence behind one more entry
 abbrev pub later : Evidence → List (List ℕ) → List Failure → List (Option Mark) → Entry → Evidence
 later e clauses failures marks last =
-    record { task = e.task; opening = e.opening; clauses = clauses; failures = failures; marks = marks; journal = e.journal ++ last ∷ [] }
+    record {
+      task = e.task;
+      opening = e.opening;
+      clauses = clauses;
+      failures = failures;
+      marks = marks;
+      journal = e.journal ++ last ∷ [];
+    }
 
-given_up_later : (e : Evidence) (clauses : List (List ℕ)) (failures : List Failure) (marks : List (Option Mark)) (last : Entry) (p : ℕ)
+given_up_later : (e : Evidence) (clauses : List (List ℕ)) (failures : List Failure) (marks : List (Option Mark)) (last : Entry)
+    (p : ℕ)
     → KeepFails e.marks marks → IsGivenUp e p → IsGivenUp (later e clauses failures marks last) p
 given_up_later e clauses failures marks last p keeps h = record {
   before = h.before;
@@ -61,7 +69,8 @@ pub justified_later : (covers : Problem → List (List ℕ) → ℕ → Type 0) 
     → (e : Evidence) (clauses : List (List ℕ)) (failures : List Failure) (marks : List (Option Mark)) (last : Entry)
     → All (Contains clauses) e.clauses → KeepFails e.marks marks → (p : ℕ) → KeepsShown e.task e.failures failures p
     → (m : Mark) → IsJustified covers bound e p m → IsJustified covers bound (later e clauses failures marks last) p m
-justified_later covers bound grows e clauses failures marks last more keeps p shows Proved h = grows e.task e.clauses clauses p h more
+justified_later covers bound grows e clauses failures marks last more keeps p shows Proved h =
+    grows e.task e.clauses clauses p h more
 justified_later covers bound grows e clauses failures marks last more keeps p shows Fails h = shows h
 justified_later covers bound grows e clauses failures marks last more keeps p shows (Budget n) h = record { limit = h.limit }
 justified_later covers bound grows e clauses failures marks last more keeps p shows Cancelled h =

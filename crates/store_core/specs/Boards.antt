@@ -46,12 +46,20 @@ failed_in (e ∷ es) = failed_by e.event e.reply ++ failed_in es
 
 -- a failure as plain data, by what its type says of it
 abbrev pub shown : {V : Type 0} → (V → ℕ) → (V → Trace) → List V → List Failure
-shown property stimulus failures = map (λ v. record { property = property v; stimulus = stimulus v }) failures
+shown property stimulus failures =
+    map (λ v. record { property = property v; stimulus = stimulus v }) failures
 
 -- what the marks of a board are judged by
 abbrev pub evidence : Problem → Opening → State → List Failure → List Entry → Evidence
 evidence t o s failures journal =
-    record { task = t; opening = o; clauses = s.clauses; failures = failures; marks = s.marks; journal = journal }
+    record {
+      task = t;
+      opening = o;
+      clauses = s.clauses;
+      failures = failures;
+      marks = s.marks;
+      journal = journal;
+    }
 
 -- a Cancel stands, for an assumed property that fails, and its entry is in the journal
 pub record IsStopped (o : Opening) (s : State) (journal : List Entry) (q : ℕ) : Type 0 where
@@ -61,7 +69,8 @@ pub record IsStopped (o : Opening) (s : State) (journal : List Entry) (q : ℕ) 
 
 -- The state is the one behind the journal, which is legal; each mark is right; and the failures are those of the properties
 -- that were settled as failing, in that order. Of what a list covers `covers` tells, and `bound` is a sufficient budget.
-pub record IsBoard (covers : Problem → List (List ℕ) → ℕ → Type 0) (bound : Problem → ℕ) (t : Problem) (o : Opening) (s : State)
+pub record IsBoard (covers : Problem → List (List ℕ) → ℕ
+    → Type 0) (bound : Problem → ℕ) (t : Problem) (o : Opening) (s : State)
     (failures : List Failure) (journal : List Entry) : Type 0 where
   pub opens : Opens t o
   pub legal : IsLegalHistory o journal
@@ -79,13 +88,16 @@ pub record IsLonger (before after : List Entry) : Type 0 where
 
 -- This event of this seat happened: the state and the journal are those behind it, and opening and task stay. `task` tells the
 -- task of a list.
-pub record Did {C V : Type 0} (task : C → Problem) (before after : BoardValue C V) (seat : ℕ) (event : Event) : Type 0 where
+pub record Did {C V : Type 0} (task : C → Problem) (before after : BoardValue C V) (seat : ℕ)
+    (event : Event) : Type 0 where
   pub opening_is : after.opening ≡ before.opening
   pub state_is : after.state ≡ state_after before.opening before.state (kept before.state event)
-  pub journal_is : after.journal ≡ before.journal ++ entry_of before.opening before.state seat event ∷ []
+  pub journal_is : after.journal ≡ before.journal
+      ++ entry_of before.opening before.state seat event ∷ []
   pub task_is : task after.list ≡ task before.list
 
 -- the list has the clauses of the state, and the board's task
-pub record IsViewOf {C V : Type 0} (clauses : C → List (List ℕ)) (task : C → Problem) (board : BoardValue C V) (list : C) : Type 0 where
+pub record IsViewOf {C V : Type 0} (clauses : C → List (List ℕ)) (task : C → Problem)
+    (board : BoardValue C V) (list : C) : Type 0 where
   pub clauses_are : clauses list ≡ board.state.clauses
   pub task_is : task list ≡ task board.list

@@ -7,7 +7,14 @@ use Rattle.ja_base.specs.Runs.{Trace}
 -- two properties, both expected to hold, that are broken at each step; nothing else
 abbrev pub two_broken : Problem
 two_broken = record {
-  circuit = record { vars = 0; inputs = []; latches = []; gates = finite_map.empty; bads = 1 ∷ 1 ∷ []; constraints = [] };
+  circuit = record {
+    vars = 0;
+    inputs = [];
+    latches = [];
+    gates = finite_map.empty;
+    bads = 1 ∷ 1 ∷ [];
+    constraints = [];
+  };
   assumed = true ∷ true ∷ [];
 }
 

@@ -30,4 +30,8 @@ board_after o journal = state_behind o (opened o) journal
 
 -- the entry of an event in this state
 abbrev pub entry_of : Opening → State → ℕ → Event → Entry
-entry_of o s seat event = record { seat = seat; event = kept s event; reply = reply_to o s (kept s event) }
+entry_of o s seat event = record {
+  seat = seat;
+  event = kept s event;
+  reply = reply_to o s (kept s event);
+}

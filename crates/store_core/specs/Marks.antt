@@ -47,7 +47,8 @@ pub record IsSpent (bound : Problem → ℕ) (e : Evidence) (n : ℕ) : Type 0 w
   pub limit : e.opening.limit ≡ Some n
 
 -- the mark of this property is right: `covers` says what a list covers
-abbrev pub IsJustified : (Problem → List (List ℕ) → ℕ → Type 0) → (Problem → ℕ) → Evidence → ℕ → Mark → Type 0
+abbrev pub IsJustified : (Problem → List (List ℕ) → ℕ → Type 0) → (Problem → ℕ) → Evidence → ℕ
+    → Mark → Type 0
 IsJustified covers bound e p Proved = covers e.task e.clauses p
 IsJustified covers bound e p Fails = IsShown e.task e.failures p
 IsJustified covers bound e p (Budget n) = IsSpent bound e n
@@ -55,4 +56,5 @@ IsJustified covers bound e p Cancelled = IsGivenUp e p
 
 -- each mark is right
 abbrev pub AreJustified : (Problem → List (List ℕ) → ℕ → Type 0) → (Problem → ℕ) → Evidence → Type 0
-AreJustified covers bound e = (p : ℕ) (m : Mark) → mark_of e.marks p ≡ Some m → IsJustified covers bound e p m
+AreJustified covers bound e = (p : ℕ) (m : Mark) → mark_of e.marks p ≡ Some m
+    → IsJustified covers bound e p m

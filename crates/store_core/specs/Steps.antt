@@ -20,7 +20,12 @@ pub record State : Type 0 where
 
 -- the state in which a board begins
 abbrev pub opened : Opening → State
-opened o = record { place = 0; clauses = []; marks = replicate (length o.assumed) None; cancel = None }
+opened o = record {
+  place = 0;
+  clauses = [];
+  marks = replicate (length o.assumed) None;
+  cancel = None;
+}
 
 -- the mark of a property, if it has one
 abbrev pub mark_of : List (Option Mark) → ℕ → Option Mark
@@ -32,7 +37,8 @@ job_of o s = if is_some s.cancel then None else slice_get o.plan s.place
 
 -- a Cancel may stand for this property: the first one under fail-fast, for an assumed property that fails
 abbrev pub can_cancel : Opening → State → ℕ → Bool
-can_cancel o s p = o.fail_fast && bit o.assumed p && is_failing (mark_of s.marks p) && is_none s.cancel
+can_cancel o s p = o.fail_fast && bit o.assumed p && is_failing (mark_of s.marks p)
+    && is_none s.cancel
 
 -- the clauses that are appended where this mark is offered to a property that has that mark
 abbrev pub settled_clauses : Option Mark → Mark → List (List ℕ) → List (List ℕ) → List (List ℕ)
@@ -63,7 +69,10 @@ appended s added = record s { clauses = s.clauses ++ added }
 -- the mark, where the property has none
 abbrev pub settled : Option Mark → State → ℕ → Mark → List (List ℕ) → State
 settled (Some had) s p m added = s
-settled None s p m added = record s { clauses = s.clauses ++ added; marks = slice_set s.marks p (Some m) }
+settled None s p m added = record s {
+  clauses = s.clauses ++ added;
+  marks = slice_set s.marks p (Some m);
+}
 
 -- the Cancel, where it may stand
 abbrev pub cancelled : Bool → State → ℕ → State

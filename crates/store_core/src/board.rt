@@ -31,14 +31,24 @@ impl<C: ClosedSet, V: Shown> Model for Board<C, V> {
 
     ghost view = { λ b. record {
       opening = b.opening;
-      state = record { place = b.place; clauses = C.clauses b.list; marks = b.marks.items; cancel = b.cancel };
+      state = record {
+        place = b.place;
+        clauses = C.clauses b.list;
+        marks = b.marks.items;
+        cancel = b.cancel;
+      };
       list = b.list;
       failures = b.failures;
       journal = b.journal;
     } };
 
     ghost invariant = { λ b. IsBoard C.covers C.bound (C.task b.list) b.opening
-        (record { place = b.place; clauses = C.clauses b.list; marks = b.marks.items; cancel = b.cancel })
+        (record {
+          place = b.place;
+          clauses = C.clauses b.list;
+          marks = b.marks.items;
+          cancel = b.cancel;
+        })
         (shown V.property V.stimulus b.failures) b.journal };
 }
 
@@ -76,7 +86,8 @@ impl<C: ClosedSet, V: Shown> Board<C, V> {
     pub fn list(&self) -> &C
         ensures value { result.now ≡ self.now.list }
         ensures clauses { C.clauses self.now.list ≡ self.now.state.clauses }
-        ensures sound { IsBoard C.covers C.bound (C.task self.now.list) self.now.opening self.now.state
+        ensures sound { IsBoard C.covers C.bound (C.task self.now.list) self.now.opening
+            self.now.state
             (shown V.property V.stimulus self.now.failures) self.now.journal }
     {
         &self.list

@@ -27,7 +27,8 @@ impl<C: ClosedSet, V: Shown> Board<C, V> {
         ensures err { OnErr result (self.new ≡ self.old) }
         ensures did { OnOk result (Did C.task self.old self.new seat (Cancel prop)) }
         ensures failures { OnOk result (self.new.failures ≡ self.old.failures) }
-        ensures reply { IfOk result (λ r. r ≡ reply_to self.old.opening self.old.state (Cancel prop)) }
+        ensures reply { IfOk result (λ r. r ≡ reply_to self.old.opening self.old.state
+            (Cancel prop)) }
     {
         let event = Event::Cancel { prop };
         if self.can_cancel(prop) {
@@ -54,7 +55,8 @@ impl<C: ClosedSet, V: Shown> Board<C, V> {
 
     fn gives_up(&self, prop: u32) -> bool
         requires { prop < length self.now.opening.assumed }
-        ensures { result ≡ (is_none (mark_of self.now.state.marks prop) && is_some self.now.state.cancel) }
+        ensures { result ≡ (is_none (mark_of self.now.state.marks prop)
+            && is_some self.now.state.cancel) }
     {
         self.marks[prop as usize].is_none() && self.cancel.is_some()
     }
@@ -65,7 +67,8 @@ impl<C: ClosedSet, V: Shown> Board<C, V> {
         ensures err { OnErr result (self.new ≡ self.old) }
         ensures did { OnOk result (Did C.task self.old self.new seat (GiveUp prop)) }
         ensures failures { OnOk result (self.new.failures ≡ self.old.failures) }
-        ensures reply { IfOk result (λ r. r ≡ reply_to self.old.opening self.old.state (GiveUp prop)) }
+        ensures reply { IfOk result (λ r. r ≡ reply_to self.old.opening self.old.state
+            (GiveUp prop)) }
     {
         let gives_up = self.gives_up(prop);
         let (event, reply) = (Event::GiveUp { prop }, self.give_up_reply(prop));

@@ -19,7 +19,8 @@ pub(crate) fn grow<C: ClosedSet>(
     part: &C,
 ) -> Result<ClauseList, Memory>
     requires task { C.task list.old ≡ C.task part.now }
-    ensures clauses { OnOk result (C.clauses list.new ≡ joined (C.clauses list.old) (C.clauses part.now)) }
+    ensures clauses { OnOk result
+        (C.clauses list.new ≡ joined (C.clauses list.old) (C.clauses part.now)) }
     ensures fresh { IfOk result (λ added. added ≡ fresh (C.clauses list.old) (C.clauses part.now)) }
     ensures task { C.task list.new ≡ C.task list.old }
     ensures place { OnOk result (IsLonger journal.old journal.new) }
@@ -42,7 +43,8 @@ pub(crate) fn grow<C: ClosedSet>(
 /// Puts the entry in the place that was taken for it.
 pub(crate) fn fill(journal: &mut Journal, entry: Entry)
     requires { 0 < length journal.old }
-    ensures { (before : List Entry) → IsLonger before journal.old → journal.new ≡ before ++ entry ∷ [] }
+    ensures { (before : List Entry) → IsLonger before journal.old
+        → journal.new ≡ before ++ entry ∷ [] }
 {
     let last = journal.len() - 1;
     journal.set(last, entry);
@@ -53,7 +55,8 @@ impl<C: ClosedSet, V: Shown> Board<C, V> {
     pub fn publish(&mut self, alloc: Global, seat: u32, part: &C) -> Result<u32, Memory>
         requires { C.task part.now ≡ C.task self.old.list }
         ensures err { OnErr result (self.new ≡ self.old) }
-        ensures did { OnOk result (Did C.task self.old self.new seat (Publish (C.clauses part.now))) }
+        ensures did { OnOk result
+            (Did C.task self.old self.new seat (Publish (C.clauses part.now))) }
         ensures failures { OnOk result (self.new.failures ≡ self.old.failures) }
         ensures upto { IfOk result (λ upto. upto ≡ length self.new.state.clauses) }
     {

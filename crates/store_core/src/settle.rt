@@ -39,7 +39,8 @@ impl<C: ClosedSet, V: Shown> Board<C, V> {
     ) -> Result<Reply, Memory>
         requires { mark_of self.old.state.marks prop ≡ Some had }
         ensures err { OnErr result (self.new ≡ self.old) }
-        ensures did { OnOk result ((added : List (List ℕ)) → Did C.task self.old self.new seat (Settle prop mark added)) }
+        ensures did { OnOk result ((added : List (List ℕ))
+            → Did C.task self.old self.new seat (Settle prop mark added)) }
         ensures failures { OnOk result (self.new.failures ≡ self.old.failures) }
         ensures reply { IfOk result (λ r. r ≡ reply.Had had) }
     {
@@ -64,7 +65,8 @@ impl<C: ClosedSet, V: Shown> Board<C, V> {
         requires task { C.task list.now ≡ C.task self.old.list }
         requires covers { C.covers (C.task list.now) (C.clauses list.now) prop }
         ensures err { OnErr result (self.new ≡ self.old) }
-        ensures did { OnOk result (Did C.task self.old self.new seat (Settle prop mark.Proved (C.clauses list.now))) }
+        ensures did { OnOk result
+            (Did C.task self.old self.new seat (Settle prop mark.Proved (C.clauses list.now))) }
         ensures failures { OnOk result (self.new.failures ≡ self.old.failures) }
         ensures reply { IfOk result (λ r. r ≡ reply.Settled (length self.new.state.clauses)) }
     {
@@ -88,7 +90,8 @@ impl<C: ClosedSet, V: Shown> Board<C, V> {
         requires free { mark_of self.old.state.marks prop ≡ None }
         requires limit { self.old.opening.limit ≡ Some note }
         ensures err { OnErr result (self.new ≡ self.old) }
-        ensures did { OnOk result (Did C.task self.old self.new seat (Settle prop (mark.Budget note) [])) }
+        ensures did { OnOk result
+            (Did C.task self.old self.new seat (Settle prop (mark.Budget note) [])) }
         ensures failures { OnOk result (self.new.failures ≡ self.old.failures) }
         ensures reply { IfOk result (λ r. r ≡ reply.Settled (length self.new.state.clauses)) }
     {
@@ -140,10 +143,12 @@ impl<C: ClosedSet, V: Shown> Board<C, V> {
         requires within { prop < length self.old.opening.assumed }
         requires proved { IfProved judged (λ list. (C.task list ≡ C.task self.old.list)
             × C.covers (C.task list) (C.clauses list) prop) }
-        requires fails { IfFails judged (λ v. (V.task v ≡ C.task self.old.list) × (V.property v ≡ prop)) }
+        requires fails { IfFails judged (λ v. (V.task v ≡ C.task self.old.list)
+            × (V.property v ≡ prop)) }
         requires spent { IfSpent judged (λ n. self.old.opening.limit ≡ Some n) }
         ensures err { OnErr result (self.new ≡ self.old) }
-        ensures did { OnOk result (Did C.task self.old self.new seat (settle_event C.clauses prop judged)) }
+        ensures did { OnOk result
+            (Did C.task self.old self.new seat (settle_event C.clauses prop judged)) }
         ensures failures { OnOk result (self.new.failures
             ≡ self.old.failures ++ kept_failure (mark_of self.old.state.marks prop) judged) }
         ensures reply { IfOk result (λ r. r ≡ reply_to self.old.opening self.old.state

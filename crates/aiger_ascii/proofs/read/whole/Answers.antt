@@ -17,4 +17,5 @@ returns-in-None-clause-found c = (
 
 pub returns-in-Some-clause-refused : goal.returns-in-Some-clause-refused
 returns-in-Some-clause-refused c =
-    tail_refusal c.args.bytes.now _ c.place.result c.in-Some.line.now c.in_ok-header.ensures c.in_ok-design.ensures.sound c.in-Some.ensures.some c.place.ensures
+    tail_refusal c.args.bytes.now _ c.place.result c.in-Some.line.now c.in_ok-header.ensures c.in_ok-design.ensures.sound
+    c.in-Some.ensures.some c.place.ensures

@@ -6,7 +6,8 @@ pub returns-in_err-take : goal.returns-in_err-take
 returns-in_err-take c =
     let p = err_from_is_err_and c.from_residual.result c.from_residual.ensures.1 in
     let so_far = rw c.in-Some.is at c.loop-behind.invariant.read in
-    rw (p.1, p.2) (lines_fail c.in_err-take.field-0.0 c.loop-behind.number c.loop-behind.found c.cut.result.0.now _ _ _ c.cut.ensures.lines (c.in_err-take.ensures).read so_far)
+    rw (p.1, p.2) (lines_fail c.in_err-take.field-0.0 c.loop-behind.number c.loop-behind.found c.cut.result.0.now _ _ _
+    c.cut.ensures.lines (c.in_err-take.ensures).read so_far)
 
 pub loop-behind-preserved : goal.loop-behind-preserved
 loop-behind-preserved c =

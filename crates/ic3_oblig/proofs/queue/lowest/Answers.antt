@@ -12,5 +12,6 @@ loop-next-preserved c =
     let waiting = c.args.waiting.now in
     let h = c.loop-next.invariant in
     let n : Obligation = get_or waiting c.loop-next.next h.obligation in
-    let is : slice_get waiting c.loop-next.next ≡ Some n = slice_get-get_or waiting c.loop-next.next h.obligation c.loop-next-test.true in
+    let is : slice_get waiting c.loop-next.next ≡ Some n =
+    slice_get-get_or waiting c.loop-next.next h.obligation c.loop-next-test.true in
     IsLowestOf-more waiting c.loop-next.at c.loop-next.next n is h c.lower-at.result (c.lower-at.ensures h.obligation n h.is is)

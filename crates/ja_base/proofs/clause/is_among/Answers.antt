@@ -46,4 +46,5 @@ loop-lit-preserved c =
 
 pub returns : goal.returns
 returns c =
-    c.is_empty.ensures ∙ is_done c.loop-lit.lit-index c.loop-lit.wanted.now c.args.whole.now c.loop-lit-test.false c.loop-lit.invariant
+    c.is_empty.ensures ∙ is_done c.loop-lit.lit-index c.loop-lit.wanted.now c.args.whole.now c.loop-lit-test.false
+    c.loop-lit.invariant

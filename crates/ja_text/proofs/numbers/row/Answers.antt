@@ -27,7 +27,8 @@ returns-in_err-rest-clause-read c =
     let l = c.loop-place in
     rw c.from_residual-in_err-rest.ensures
     (row_lacks_end (take l.place l.places) l.place l.rest.now c.in_ok-next.next c.in_ok-next.after.now
-    (row_at 9 c.args.bytes.now) c.loop-place-test.true c.in_ok-next.ensures.read c.in_default.ensures.read c.in_err-rest.ensures.read l.invariant.so_far)
+    (row_at 9 c.args.bytes.now) c.loop-place-test.true c.in_ok-next.ensures.read c.in_default.ensures.read
+    c.in_err-rest.ensures.read l.invariant.so_far)
 
 pub loop-place-preserved : goal.loop-place-preserved
 loop-place-preserved c =
@@ -36,7 +37,8 @@ loop-place-preserved c =
       holds = holds_more l.place l.places c.in_ok-next.next c.loop-place-test.true l.invariant.holds;
       so_far = rw (front_more l.place l.places c.in_ok-next.next c.loop-place-test.true l.invariant.holds)
           (row_goes_on (take l.place l.places) l.place l.rest.now c.in_ok-next.next c.in_ok-next.after.now c.in_ok-rest.rest.now
-          (row_at 9 c.args.bytes.now) c.loop-place-test.true c.in_ok-next.ensures.read c.in_ok-rest.ensures.read l.invariant.so_far);
+          (row_at 9 c.args.bytes.now) c.loop-place-test.true c.in_ok-next.ensures.read c.in_ok-rest.ensures.read
+          l.invariant.so_far);
       shorter = omega (arith, c.in_ok-next.ensures.shorter, c.in_ok-rest.ensures.shorter);
     }
 

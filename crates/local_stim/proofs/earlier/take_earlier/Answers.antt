@@ -13,7 +13,8 @@ returns-then-not-take_step-clause-earlier c =
     let r = c.loop-step.invariant.replays in
     let after = c.take_step.new.runner in
     let within : c.loop-step.step < length m.inputs = omega (arith, c.len-step-end.ensures.len ∙ ap length c.inputs.ensures) in
-    leaves_at t.design t.expected c.requires.sound m c.requires.initial c.requires.rows c.loop-step.step c.loop-step.runner.state after.state after.values
+    leaves_at t.design t.expected c.requires.sound m c.requires.initial c.requires.rows c.loop-step.step c.loop-step.runner.state
+    after.state after.values
     c.loop-step.broken r within (c.take_step.ensures.run r.steps r.runs)
     (c.take_step.ensures.fits.state ∙ length-map t.design.latches latch_of)
     (iff_false c.take_step.ensures.meets c.if-not-take_step.true)
@@ -27,7 +28,8 @@ loop-step-preserved c =
     let within : c.loop-step.step < length m.inputs = omega (arith, c.len-step-end.ensures.len ∙ ap length c.inputs.ensures) in
     record {
       fits = c.take_step.ensures.fits;
-      replays = next_replays t m c.loop-step.step c.loop-step.runner.state after.state after.values c.loop-step.broken c.first_break-broken.result
+      replays = next_replays t m c.loop-step.step c.loop-step.runner.state after.state after.values c.loop-step.broken
+          c.first_break-broken.result
           r within (c.take_step.ensures.run r.steps r.runs) (c.take_step.ensures.meets.0 c.if-not-take_step.false)
           c.first_break-broken.ensures.found (rw c.vals.ensures at c.first_break-broken.ensures.here);
     }

@@ -8,7 +8,8 @@ returns-in_err-found-clause-not_refused c =
     rw (p.1, p.2) (not_refused c.in_err-found.field-0.0 c.args.design.now c.args.bytes.now c.in_err-found.ensures)
 
 pub returns-clause-found : goal.returns-clause-found
-returns-clause-found c = text_takes c.args.design.now c.args.bytes.now c.in_ok-found.found.0 c.in_ok-found.found.1 c.in_ok-found.ensures
+returns-clause-found c =
+    text_takes c.args.design.now c.args.bytes.now c.in_ok-found.found.0 c.in_ok-found.found.1 c.in_ok-found.ensures
 
 pub returns-clause-only : goal.returns-clause-only
 returns-clause-only c =

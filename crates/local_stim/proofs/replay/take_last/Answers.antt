@@ -26,7 +26,8 @@ returns-then-not-breaks c =
     let t = problem c.args.task.now in
     let after = c.take_step.new.runner in
     let len = c.len-last.ensures.len ∙ ap length c.inputs.ensures in
-    let legal = legal_to_last t c.args.stim.now c.len-last.result c.args.runner.now after c.args.broken c.requires.initial len c.len-last.ensures.some
+    let legal = legal_to_last t c.args.stim.now c.len-last.result c.args.runner.now after c.args.broken c.requires.initial len
+    c.len-last.ensures.some
     c.requires.earlier c.take_step.ensures.run (c.take_step.ensures.meets.0 c.if-not-take_step.false) in
     let breaks = rw (c.design.ensures.value, c.vals.ensures) at c.breaks.ensures in
     let good = false_from_ne_true (value after.values (bad_literal t.circuit c.args.prop))

@@ -14,7 +14,8 @@ use Rattle.sat_plain.proofs.backtrack.learn.Goals as goal
 pub returns-in_err-core-in-None-clause-next : goal.returns-in_err-core-in-None-clause-next
 returns-in_err-core-in-None-clause-next c =
     let line : Line = c.in_ok-line.field-0.line in
-    let g : IsLogged c.args.query.now.trail.vars c.args.query.now.lines c.args.clauses.now line c.log.new.lines c.log.new.clauses =
+    let g : IsLogged c.args.query.now.trail.vars c.args.query.now.lines c.args.clauses.now line c.log.new.lines
+    c.log.new.clauses =
     record {
       accepted = c.in_ok-line.ensures.accepted;
       list = c.in_ok-log.ensures.ok.0;
@@ -28,7 +29,8 @@ returns-in_err-core-in-None-clause-next c =
 pub returns-in_ok-core-in-None-clause-next : goal.returns-in_ok-core-in-None-clause-next
 returns-in_ok-core-in-None-clause-next c =
     let line : Line = c.in_ok-line.field-0.line in
-    let g : IsLogged c.args.query.now.trail.vars c.args.query.now.lines c.args.clauses.now line c.log.new.lines c.log.new.clauses =
+    let g : IsLogged c.args.query.now.trail.vars c.args.query.now.lines c.args.clauses.now line c.log.new.lines
+    c.log.new.clauses =
     record {
       accepted = c.in_ok-line.ensures.accepted;
       list = c.in_ok-log.ensures.ok.0;

@@ -14,4 +14,5 @@ returns-in-Some-clause-forced c =
     (forced_push c.args.clauses.now.list c.args.trail.now.places place (λ n r. absurd (none-some n r)) c.requires.forced)
 
 pub returns-in-None-clause-step : goal.returns-in-None-clause-step
-returns-in-None-clause-step c = (c.requires.quiet, full_by_variables c.args.trail.now.vars c.args.trail.now.values c.in-None.ensures.full)
+returns-in-None-clause-step c =
+    (c.requires.quiet, full_by_variables c.args.trail.now.vars c.args.trail.now.values c.in-None.ensures.full)

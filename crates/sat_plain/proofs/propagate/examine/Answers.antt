@@ -57,7 +57,11 @@ returns-in-Forces-clause-forced c =
     let here : slice_get list c.args.at ≡ Some clause =
     c.clause.ensures ∙ ap Some (sym (get_or_from_slice_get list c.args.at c.clause.result.now [] c.clause.ensures)) in
     let by : IsForcedBy list (lits_of places) l c.args.at =
-    record { clause = clause; is = here; reason = reason_of c.args.trail.now.vars values places clause l c.values.ensures.is f } in
+    record {
+      clause = clause;
+      is = here;
+      reason = reason_of c.args.trail.now.vars values places clause l c.values.ensures.is f;
+    } in
     let place : Place = record { lit = l; reason = Some c.args.at } in
     let P : List Place → Type 0 = AreForced list in
     subst P (sym c.push.ensures.places) (forced_push list places place

@@ -6,5 +6,6 @@ use Rattle.sat_plain.proofs.propagate.pass.Goals as goal
 
 pub returns-else-len-before-clause-step : goal.returns-else-len-before-clause-step
 returns-else-len-before-clause-step c = λ k d less.
-    ap (λ v. found_of c.loop-at.trail.values (open_lits c.loop-at.trail.values v)) (get_or_default c.args.clauses.now.list k d [] less)
+    ap (λ v. found_of c.loop-at.trail.values (open_lits c.loop-at.trail.values v))
+    (get_or_default c.args.clauses.now.list k d [] less)
     ∙ c.loop-at.invariant.quiet (omega arith) k (omega arith)

@@ -12,7 +12,8 @@ returns-then-get c =
     elim c.if-number-eq0.branch [
       | then-number-eq0 w ↦ inl (sym c.var-var.ensures ∙ sym c.number.ensures ∙ w.if-number-eq0.true)
       | else-number-eq0 w ↦
-          let read : w.get.result ≡ bit row (variable c.args.lit) = rw (w.number-else-number-eq0.ensures, c.var-var.ensures) at w.get.ensures in
+          let read : w.get.result ≡ bit row (variable c.args.lit) =
+          rw (w.number-else-number-eq0.ensures, c.var-var.ensures) at w.get.ensures in
           inr (sym read ∙ sym w.value-is ∙ c.if-get.true)
     ] in
     checks_same row c.args.least c.args.lit known
@@ -24,7 +25,8 @@ returns-else-get c =
     elim c.if-number-eq0.branch [
       | then-number-eq0 w ↦ absurd (false≢true (sym c.if-get.false ∙ w.value-is ∙ eq-eqb c.number.result 0 w.if-number-eq0.true))
       | else-number-eq0 w ↦
-          let read : w.get.result ≡ bit row (variable c.args.lit) = rw (w.number-else-number-eq0.ensures, c.var-var.ensures) at w.get.ensures in
+          let read : w.get.result ≡ bit row (variable c.args.lit) =
+          rw (w.number-else-number-eq0.ensures, c.var-var.ensures) at w.get.ensures in
           (omega (arith, c.number.ensures, c.var-var.ensures, w.if-number-eq0.false), sym read ∙ sym w.value-is ∙ c.if-get.false)
     ] in
     rw (c.lesser.ensures, c.var-var.ensures) (checks_new row c.args.least c.args.lit missing.0 missing.1)

@@ -42,4 +42,11 @@ returns c =
     let bads = c.least_in-least-2.ensures _ outputs in
     let constraints = c.least_in-least-3.ensures _ bads in
     let all = c.least_in_gates.ensures _ constraints in
-    undefined_from_missing p c.args.self.now _ c.requires.table (rw (← c.as_slice.ensures.value, ← c.as_slice-2.ensures.value, ← c.as_slice-3.ensures.value, ← c.as_slice-4.ensures.value, ← c.as_slice-5.ensures.value) all)
+    undefined_from_missing p c.args.self.now _ c.requires.table
+    (rw (
+      ← c.as_slice.ensures.value,
+      ← c.as_slice-2.ensures.value,
+      ← c.as_slice-3.ensures.value,
+      ← c.as_slice-4.ensures.value,
+      ← c.as_slice-5.ensures.value,
+    ) all)

@@ -9,7 +9,8 @@ use Rattle.aig_model.specs.Definitions.{IsTableOf}
 use Rattle.aig_model.proofs.Assembly.{gates_from_once, sound_from_order, circuit_from_order, makes_from_order}
 use Rattle.aig_model.proofs.design.Design.build.Goals as goal
 
-once_from : (p : Parts) (defined : Defined) (twice : Option ℕ) → IsTableOf p defined → twice ≡ defined.twice → twice ≡ None → AreOnce p
+once_from : (p : Parts) (defined : Defined) (twice : Option ℕ) → IsTableOf p defined → twice ≡ defined.twice → twice ≡ None
+    → AreOnce p
 once_from p defined twice table is none = subst (IsLeastOf (IsDefinedTwice p)) (sym is ∙ none) table.twice
 
 defined_from : (p : Parts) (undefined : Option ℕ) → IsLeastOf (IsUndefined p) undefined → undefined ≡ None → AreDefined p
@@ -17,7 +18,8 @@ defined_from p undefined least none = subst (IsLeastOf (IsUndefined p)) none lea
 
 pub ordered_gates-requires-clause-given : goal.ordered_gates-requires-clause-given
 ordered_gates-requires-clause-given c =
-    let once = once_from c.args.parts c.in_ok-defined.defined c.twice.result c.in_ok-defined.ensures c.twice.ensures c.in_default.is in
+    let once = once_from c.args.parts c.in_ok-defined.defined c.twice.result c.in_ok-defined.ensures c.twice.ensures
+    c.in_default.is in
     rw c.as_slice-given.ensures.value (gates_from_once c.args.parts c.requires once)
 
 pub from_parts-requires : goal.from_parts-requires

@@ -5,7 +5,8 @@ use Rattle.aig_model.proofs.WalkSteps.{last_gate_is, reached_at}
 use Rattle.aig_model.proofs.order.Walk.last_gate.Goals as goal
 
 pub standing-requires : goal.standing-requires
-standing-requires c = reached_within c.args.self.now.standings.items c.last.result (c.requires.walk.path.reached _ c.last.result c.last.ensures)
+standing-requires c =
+    reached_within c.args.self.now.standings.items c.last.result (c.requires.walk.path.reached _ c.last.result c.last.ensures)
 
 pub bounds-gates-at : goal.bounds-gates-at
 bounds-gates-at c =
@@ -20,4 +21,5 @@ unreachable-requires c =
 pub returns : goal.returns
 returns c =
     let d = c.requires.walk.table.reached c.last.result c.in-Reached.at (sym c.standing.ensures ∙ c.in-Reached.is) in
-    last_gate_is c.args.gates.now c.args.self.now.path.items c.in-Reached.at c.last.result c.index-gates-at.result d c.index-gates-at.is c.last.ensures
+    last_gate_is c.args.gates.now c.args.self.now.path.items c.in-Reached.at c.last.result c.index-gates-at.result d
+    c.index-gates-at.is c.last.ensures

@@ -40,7 +40,8 @@ pub resolve-requires-clause-clause : goal.resolve-requires-clause-clause
 resolve-requires-clause-clause c =
     spans_of c.args.trail.now.vars (length c.args.self.now.derivation.marks) c.clause.result.now
     c.requires.walk.derived.width
-    (below_at c.args.trail.now.vars c.args.clauses.now.list c.in-Some.number c.clause.result.now c.requires.below c.clause.ensures)
+    (below_at c.args.trail.now.vars c.args.clauses.now.list c.in-Some.number c.clause.result.now c.requires.below
+    c.clause.ensures)
 
 pub returns-in_ok-resolve-in-Some : goal.returns-in_ok-resolve-in-Some
 returns-in_ok-resolve-in-Some c =

@@ -9,5 +9,6 @@ returns-in-Unsat-clause-answer g c =
     let h = c.in-Unsat.ensures.answer in
     record {
       part = h.part;
-      refuted = covered_by_lines c.args.self.now.vars clauses c.in-Unsat.refuted.lines c.in-Unsat.refuted.core h.accepted h.covered;
+      refuted = covered_by_lines c.args.self.now.vars clauses c.in-Unsat.refuted.lines c.in-Unsat.refuted.core h.accepted
+          h.covered;
     }

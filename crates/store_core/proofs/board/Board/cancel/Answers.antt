@@ -7,11 +7,13 @@ use Rattle.store_core.proofs.board.Board.cancel.Goals as goal
 pub invariant_of-self-then-can_cancel : goal.invariant_of-self-then-can_cancel
 invariant_of-self-then-can_cancel g c =
     cancels _ _ g.met.C.ClosedSet.grows _ _ _ _ _ _ c.args.seat c.self.invariant c.args.prop
-    (ap (λ (v : BoardValue _ _). can_cancel v.opening v.state c.args.prop) c.self.view_is ∙ sym c.can_cancel.ensures ∙ c.if-can_cancel.true)
+    (ap (λ (v : BoardValue _ _). can_cancel v.opening v.state c.args.prop) c.self.view_is ∙ sym c.can_cancel.ensures
+    ∙ c.if-can_cancel.true)
     c.in_ok-push.ensures.ok
 
 pub invariant_of-self-2 : goal.invariant_of-self-2
 invariant_of-self-2 g c =
     cancels_not _ _ g.met.C.ClosedSet.grows _ _ _ _ _ _ c.args.seat c.self.invariant c.args.prop
-    (ap (λ (v : BoardValue _ _). can_cancel v.opening v.state c.args.prop) c.self.view_is ∙ sym c.can_cancel.ensures ∙ c.if-can_cancel.false)
+    (ap (λ (v : BoardValue _ _). can_cancel v.opening v.state c.args.prop) c.self.view_is ∙ sym c.can_cancel.ensures
+    ∙ c.if-can_cancel.false)
     c.in_ok-push-2.ensures.ok

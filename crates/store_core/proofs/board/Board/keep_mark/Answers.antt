@@ -9,4 +9,9 @@ use Rattle.store_core.proofs.board.Board.keep_mark.Goals as goal
 pub invariant_of-self-2 : goal.invariant_of-self-2
 invariant_of-self-2 g c =
     keeps_mark _ _ g.met.C.ClosedSet.grows _ _ _ _ _ _ c.args.seat c.self.invariant c.args.prop c.args.had c.args.mark
-    (ap (λ (v : BoardValue _ _). mark_of v.state.marks c.args.prop) c.self.view_is ∙ c.requires) (c.in_ok-push.ensures.ok ∙ ap (λ added. c.self.inside.journal ++ record { seat = c.args.seat; event = Settle c.args.prop c.args.mark added; reply = reply.Had c.args.had } ∷ []) c.new-added.ensures)
+    (ap (λ (v : BoardValue _ _). mark_of v.state.marks c.args.prop) c.self.view_is ∙ c.requires) (c.in_ok-push.ensures.ok
+    ∙ ap (λ added. c.self.inside.journal ++ record {
+      seat = c.args.seat;
+      event = Settle c.args.prop c.args.mark added;
+      reply = reply.Had c.args.had;
+    } ∷ []) c.new-added.ensures)

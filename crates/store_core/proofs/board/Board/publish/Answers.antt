@@ -18,7 +18,8 @@ invariant_of-self-2 g c =
     }) (shown g.V.Shown.property g.V.Shown.stimulus c.self.inside.failures) c.fill.new.journal in
     subst P (sym c.grow.ensures.task)
     (publishes _ _ g.met.C.ClosedSet.grows _ _ _ _ _ _ c.args.seat c.self.invariant (g.C.ClosedSet.clauses c.grow.new.list)
-    (g.C.ClosedSet.clauses c.args.part.now) c.in_ok-added.added c.len-upto.result grown.clauses grown.fresh c.len-upto.ensures.value
+    (g.C.ClosedSet.clauses c.args.part.now) c.in_ok-added.added c.len-upto.result grown.clauses grown.fresh
+    c.len-upto.ensures.value
     (c.fill.ensures c.self.inside.journal grown.place))
 
 pub returns-clause-did : goal.returns-clause-did
@@ -32,10 +33,13 @@ returns-clause-did g c =
     } in
     did_before _ _ _ _ _ _ c.self.view_is record {
       opening_is = refl;
-      state_is = publish_state c.self.inside.opening s c.args.seat (g.C.ClosedSet.clauses c.grow.new.list) (g.C.ClosedSet.clauses c.args.part.now) grown.clauses;
+      state_is = publish_state c.self.inside.opening s c.args.seat (g.C.ClosedSet.clauses c.grow.new.list)
+          (g.C.ClosedSet.clauses c.args.part.now) grown.clauses;
       journal_is =
           c.fill.ensures c.self.inside.journal grown.place
-          ∙ ap (λ e. c.self.inside.journal ++ e ∷ []) (publish_entry c.self.inside.opening s c.args.seat (g.C.ClosedSet.clauses c.grow.new.list) (g.C.ClosedSet.clauses c.args.part.now)
+          ∙ ap (λ e. c.self.inside.journal ++ e ∷ [])
+          (publish_entry c.self.inside.opening s c.args.seat (g.C.ClosedSet.clauses c.grow.new.list)
+          (g.C.ClosedSet.clauses c.args.part.now)
           c.in_ok-added.added c.len-upto.result grown.clauses grown.fresh c.len-upto.ensures.value);
       task_is = c.grow.ensures.task;
     }

@@ -27,8 +27,10 @@ invariant_of-self-2 g c =
     let new : shown g.V.Shown.property g.V.Shown.stimulus c.push.new.self
     ≡ old ++ record { property = p; stimulus = g.V.Shown.stimulus c.args.failure } ∷ [] =
     ap (shown g.V.Shown.property g.V.Shown.stimulus) c.in_ok-push.ensures.ok
-    ∙ map-append (λ v. record { property = g.V.Shown.property v; stimulus = g.V.Shown.stimulus v }) c.self.inside.failures (c.args.failure ∷ [])
-    ∙ ap (λ q. old ++ record { property = q; stimulus = g.V.Shown.stimulus c.args.failure } ∷ []) (sym c.prop-prop.ensures.value) in
+    ∙ map-append (λ v. record { property = g.V.Shown.property v; stimulus = g.V.Shown.stimulus v }) c.self.inside.failures
+    (c.args.failure ∷ [])
+    ∙ ap (λ q. old ++ record { property = q; stimulus = g.V.Shown.stimulus c.args.failure } ∷ [])
+    (sym c.prop-prop.ensures.value) in
     let P : List Failure → Type 0 = λ fs.
     IsBoard g.C.ClosedSet.covers g.C.ClosedSet.bound (g.C.ClosedSet.task c.self.inside.list) c.self.inside.opening
     (record {
@@ -38,9 +40,12 @@ invariant_of-self-2 g c =
       cancel = c.self.inside.cancel;
     }) fs c.push-2.new.self in
     subst P (sym new)
-    (shows _ _ g.met.C.ClosedSet.grows _ _ _ _ _ _ c.args.seat c.self.invariant p c.len-upto.result (g.V.Shown.stimulus c.args.failure)
+    (shows _ _ g.met.C.ClosedSet.grows _ _ _ _ _ _ c.args.seat c.self.invariant p c.len-upto.result
+    (g.V.Shown.stimulus c.args.failure)
     (subst W (sym c.self.view_is) (subst N (sym same) c.requires.within))
-    (ap (λ q. mark_of c.self.inside.marks.items q) same ∙ ap (λ (v : BoardValue _ _). mark_of v.state.marks c.args.prop) c.self.view_is
+    (ap (λ q. mark_of c.self.inside.marks.items q) same
+    ∙ ap (λ (v : BoardValue _ _). mark_of v.state.marks c.args.prop) c.self.view_is
     ∙ c.requires.free) fails c.len-upto.ensures.value
     (c.in_default.ensures.ok ∙ ap (λ added. c.self.inside.journal
-    ++ record { seat = c.args.seat; event = Settle p mark.Fails added; reply = reply.Settled c.len-upto.result } ∷ []) c.new-added.ensures))
+    ++ record { seat = c.args.seat; event = Settle p mark.Fails added; reply = reply.Settled c.len-upto.result } ∷ [])
+    c.new-added.ensures))

@@ -42,10 +42,13 @@ returns-clause-did g c =
     } in
     did_before _ _ _ _ _ _ c.self.view_is record {
       opening_is = refl;
-      state_is = prove_state c.self.inside.opening s c.args.seat p (g.C.ClosedSet.clauses c.grow.new.list) (g.C.ClosedSet.clauses c.args.list.now) free grown.clauses;
+      state_is = prove_state c.self.inside.opening s c.args.seat p (g.C.ClosedSet.clauses c.grow.new.list)
+          (g.C.ClosedSet.clauses c.args.list.now) free grown.clauses;
       journal_is =
           c.fill.ensures c.self.inside.journal grown.place
-          ∙ ap (λ e. c.self.inside.journal ++ e ∷ []) (prove_entry c.self.inside.opening s c.args.seat p (g.C.ClosedSet.clauses c.grow.new.list) (g.C.ClosedSet.clauses c.args.list.now)
+          ∙ ap (λ e. c.self.inside.journal ++ e ∷ [])
+          (prove_entry c.self.inside.opening s c.args.seat p (g.C.ClosedSet.clauses c.grow.new.list)
+          (g.C.ClosedSet.clauses c.args.list.now)
           c.in_ok-added.added c.len-upto.result free grown.clauses grown.fresh c.len-upto.ensures.value);
       task_is = c.grow.ensures.task;
     }

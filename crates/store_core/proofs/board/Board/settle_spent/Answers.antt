@@ -18,4 +18,5 @@ invariant_of-self-2 g c =
     (ap (λ (v : BoardValue _ _). v.opening.limit) c.self.view_is ∙ c.requires.limit ∙ ap Some (sym c.units.ensures))
     c.len-upto.ensures.value
     (c.in_ok-push.ensures.ok ∙ ap (λ added. c.self.inside.journal
-    ++ record { seat = c.args.seat; event = Settle p (mark.Budget n) added; reply = reply.Settled c.len-upto.result } ∷ []) c.new-added.ensures)
+    ++ record { seat = c.args.seat; event = Settle p (mark.Budget n) added; reply = reply.Settled c.len-upto.result } ∷ [])
+    c.new-added.ensures)
