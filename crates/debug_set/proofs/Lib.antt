@@ -1,5 +1,6 @@
 mod PrefixLemmas
 mod BreakLemmas
 mod SetLemmas
+mod JoinedLemmas
 mod NamedLemmas
 mod StatusLemmas
