@@ -5,3 +5,5 @@ pub mod SoundLemmas
 pub mod OverLemmas
 pub mod SumLemmas
 pub mod BoundLemmas
+pub mod ApartLemmas
+pub mod TopLemmas

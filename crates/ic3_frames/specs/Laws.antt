@@ -1,10 +1,11 @@
 -- Statements over the definitions alone.
-use Rattle.std.specs.Prelude.{◌≡◌, ℕ, ◌+◌, ◌≤◌, ◌<◌, Bool, false, Some, List, ◌++◌, slice_get}
+use Rattle.std.specs.Prelude.{◌≡◌, ℕ, ◌+◌, ◌*◌, ◌^◌, ◌≤◌, ◌<◌, Bool, false, Some, List, ◌++◌, All, length, slice_get}
 use Rattle.ja_base.specs.Circuit.{Circuit}
 use Rattle.ja_base.specs.Invariants.{IsInductive}
-use Rattle.ic3_frames.specs.Levels.{Entry, Levels, AreLevels, at_level, is_blocked, added, moved}
+use Rattle.ic3_frames.specs.Levels.{Entry, Levels, AreLevels, HasOwnBelow, at_level, is_blocked, added, moved}
 use Rattle.ic3_frames.specs.Soundness.{AreSound, IsBlockedFrom, Gains}
 use Rattle.ic3_frames.specs.Sums.{IsOver, greatest, potential}
+use Rattle.ic3_frames.specs.Apart.{AreApart, IsTighter}
 
 -- an addition gains the clause at its level
 abbrev pub AdditionsGain : Type 0
@@ -49,3 +50,32 @@ MovesNeverFall = (vars : List ℕ) (kept : List Entry) (at : ℕ) (e : Entry) (l
 -- no clause is blocked above the top
 abbrev pub GreatestIsWithin : Type 0
 GreatestIsWithin = (f : Levels) (clause : List ℕ) → AreLevels f → greatest f.kept clause ≤ f.top
+
+-- additions and moves make levels tighter
+abbrev pub AdditionsTighten : Type 0
+AdditionsTighten = (c : Circuit) (kept : List Entry) (clause : List ℕ) (level : ℕ)
+    → IsTighter c kept (added clause level kept)
+
+abbrev pub MovesTighten : Type 0
+MovesTighten = (c : Circuit) (kept : List Entry) (at : ℕ) (e : Entry) (level : ℕ)
+    → slice_get kept at ≡ Some e → e.level ≤ level → IsTighter c kept (moved kept at e level)
+
+-- a clause that was not blocked at its level is none of those that stay kept
+abbrev pub AdditionsStayApart : Type 0
+AdditionsStayApart = (clause : List ℕ) (level : ℕ) (kept : List Entry) → AreApart kept
+    → is_blocked kept level clause ≡ false → AreApart (added clause level kept)
+
+-- a move changes no clause
+abbrev pub MovesStayApart : Type 0
+MovesStayApart = (kept : List Entry) (at : ℕ) (e : Entry) (level : ℕ) → AreApart kept
+    → slice_get kept at ≡ Some e → AreApart (moved kept at e level)
+
+-- the sum is at most the top for each clause over the variables
+abbrev pub SumIsBounded : Type 0
+SumIsBounded = (vars : List ℕ) (f : Levels) → AreLevels f
+    → potential vars f.kept ≤ 3 ^ length vars * f.top
+
+-- where each level below the top has a clause of its own, the top is bounded
+abbrev pub TopIsBounded : Type 0
+TopIsBounded = (vars : List ℕ) (f : Levels) → All (λ (e : Entry). IsOver vars e.clause) f.kept
+    → AreApart f.kept → HasOwnBelow f.kept f.top → f.top ≤ 3 ^ length vars + 1

@@ -1,6 +1,6 @@
 //! What additions and moves do to levels, over plain data.
 
-ghost use Rattle.ic3_frames.specs.Laws.{AdditionsGain, AdditionsNeverFall, AdditionsRaise, FixedIsInductive, GainsAreSound, GreatestIsWithin, MovesGain, MovesNeverFall};
+ghost use Rattle.ic3_frames.specs.Laws.{AdditionsGain, AdditionsNeverFall, AdditionsRaise, AdditionsStayApart, AdditionsTighten, FixedIsInductive, GainsAreSound, GreatestIsWithin, MovesGain, MovesNeverFall, MovesStayApart, MovesTighten, SumIsBounded, TopIsBounded};
 
 pub fn additions_gain()
     ensures { AdditionsGain }
@@ -32,4 +32,28 @@ pub fn moves_never_fall()
 
 pub fn greatest_is_within()
     ensures { GreatestIsWithin }
+{}
+
+pub fn additions_tighten()
+    ensures { AdditionsTighten }
+{}
+
+pub fn moves_tighten()
+    ensures { MovesTighten }
+{}
+
+pub fn additions_stay_apart()
+    ensures { AdditionsStayApart }
+{}
+
+pub fn moves_stay_apart()
+    ensures { MovesStayApart }
+{}
+
+pub fn sum_is_bounded()
+    ensures { SumIsBounded }
+{}
+
+pub fn top_is_bounded()
+    ensures { TopIsBounded }
 {}
