@@ -1,0 +1,11 @@
+//! Cubes of latch rows from which a failure is reached. A cube is kept as the clause that excludes it; input rows that lead from
+//! each of its rows to a broken property are its chain (`specs/Chains`). A cube that no initial row is excluded from is a
+//! failure.
+#![tactic(auto)]
+
+mod failing;
+mod lifting;
+mod rows;
+
+pub use failing::failure_of;
+pub use lifting::{Cube, lifted, lifted_bad};
