@@ -1,0 +1,6 @@
+pub mod RowLemmas
+pub mod ServeLemmas
+pub mod OpenLemmas
+pub mod KnownLemmas
+pub mod AnswerLemmas
+pub mod FitLemmas
