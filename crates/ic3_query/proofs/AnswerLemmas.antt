@@ -1,7 +1,7 @@
 -- What a refuted question says of each step, and what a row that meets it is.
 use Rattle.std.proofs.Common.{◌≡◌, ℕ, suc, zero, ◌+◌, ◌-◌, ◌≤◌, ◌<◌, Bool, true, false, not, List, [], ◌∷◌, ◌++◌, length, map, get_or, take, nat_le, refl, sym, ap, subst, ◌∙◌, arith}
 use Rattle.std.specs.List.{list_any, range_with_len, All}
-use Rattle.std.specs.Prelude.{slice_get, Some}
+use Rattle.std.specs.Prelude.{Option, Some, None}
 use Rattle.std.proofs.lemmas.Bool.Decides.{nat_tests}
 use Rattle.std.proofs.lemmas.List.{length-append, get_or_append_left, get_or-append-add}
 use Rattle.std.proofs.lemmas.Option.{slice_get-get_or}
@@ -29,9 +29,10 @@ use Rattle.ja_project.proofs.ForeignLemmas.{own_is_below}
 use Rattle.ja_project.proofs.ValueLemmas.{obliged, later_false}
 use Rattle.aig_eval.specs.Rows.{IsClear}
 use Rattle.inv_cert.proofs.InductionLemmas.{All-part}
-use Rattle.ic3_frames.specs.Levels.{Levels}
+use Rattle.ic3_frames.specs.Levels.{Entry, Levels}
 use Rattle.ic3_frames.specs.Soundness.{Meets, IsIn}
-use Rattle.ic3_query.specs.Questions.{IsStep, IsBefore, IsKeptAt, IsBadRow, IsGoodFrom, IsRoom}
+use Rattle.ic3_query.specs.Known.{IsKept}
+use Rattle.ic3_query.specs.Questions.{IsStep, IsBefore, IsKeptAt, IsBadRow, IsGoodFrom, IsRoom, IsAnswered}
 use Rattle.ic3_query.specs.Serving.{IsKnownStep, Serves}
 use Rattle.ic3_query.specs.Switches.{switch_var, switch, IsOn, IsExactly}
 use Rattle.ic3_query.specs.Under.{switches, step_literals, bad_literals}
@@ -92,7 +93,6 @@ bad_is_below t sound p within =
     lit_is_below t.design.vars (bad_literal (circuit t.design) p)
     (sound.bads p (bad_literal (circuit t.design) p) (slice_get-get_or t.design.bads p 0 within)).within
 
-
 switched_same : (n : Netlist) (v : List Bool) (k top : ℕ) → length v ≡ n.vars + 1 → AreSame (n.vars + 1) (switched v k top) v
 switched_same n v k top width u low = get_or_append_left v (switch_bits k top) false u (omega (arith, low, width))
 
@@ -105,7 +105,7 @@ module _ (t : VerificationTask) (known : List (List ℕ)) (f : Levels) (count : 
     known_met : MeetsClauses (circuit t.design) s known
     there : IsIn (circuit t.design) f.kept k s
 
-  row_of : List Bool → List Bool
+  abbrev row_of : List Bool → List Bool
   row_of v = switched v k f.top
 
   same_row : (s x v : List Bool) → IsStepFrom s x v → AreSame (t.design.vars + 1) (row_of v) v
@@ -117,7 +117,7 @@ module _ (t : VerificationTask) (known : List (List ℕ)) (f : Levels) (count : 
   fits_step : (s x v : List Bool) → IsStepFrom s x v → AllSatisfiedBy (value (row_of v)) clauses
   fits_step s x v h =
       let c : plain.Circuit = circuit t.design in
-      let legal = (clauses_mean_steps t.design sound v h.now.width).1 (s, (x, (h.now, h.constrained))) in
+      let legal = (clauses_mean_steps t.design sound v h.now.width).1 (s, x, h.now, h.constrained) in
       let state = sym (from_state s x v h) in
       let P : List Bool → Type 0 = λ state. MeetsClauses c state known in
       let Q : List Bool → Type 0 = λ state. IsIn c f.kept k state in
@@ -216,12 +216,12 @@ module _ (t : VerificationTask) (known : List (List ℕ)) (f : Levels) (count : 
     found_now =
         let now = legal.2 in
         record {
-          width = now.0.width;
-          constant = now.0.constant;
+          width = now.width;
+          constant = now.constant;
           latches = refl;
           inputs = refl;
-          gates = now.0.gates;
-          rest = now.0.rest;
+          gates = now.gates;
+          rest = now.rest;
         }
 
     found_state : latch_row (circuit t.design) whole ≡ latch_row (circuit t.design) row
@@ -262,7 +262,7 @@ module _ (t : VerificationTask) (known : List (List ℕ)) (f : Levels) (count : 
       let Q : List Bool → Type 0 = λ state. Meets c state clause in
       record {
         now = now;
-        constrained = (legal whole row all width same).2.1;
+        constrained = (legal whole row all width same).3;
         held = (held_means_assumptions t expected row).0
             (lits_same (t.design.vars + 1) row whole (held_literals t) same (held_is_below t sound) low.1);
         known_met = found_known whole row all width same;
@@ -285,16 +285,104 @@ module _ (t : VerificationTask) (known : List (List ℕ)) (f : Levels) (count : 
       let parts = all_part P (switches t.design k f.top) (bad ∷ []) front.meets.under_holds in
       record {
         now = found_now whole row all width same;
-        constrained = (legal whole row all width same).2.1;
+        constrained = (legal whole row all width same).3;
         known_met = found_known whole row all width same;
         level = found_level whole row all width same parts.0;
         bad = value_same (t.design.vars + 1) row whole bad same (bad_is_below t sound p within) ∙ parts.1 0 0 (omega arith);
       }
 
+  -- ---- the same by what a question answered
+
+  closes_of : (many : List (List ℕ)) (under core : List ℕ) (among : Option (List ℕ)) (row : List Bool) (answer : Option (List ℕ))
+      → IsAnswered count many under among row answer → answer ≡ Some core → Closes count many under core
+  closes_of many under core among row answer h e =
+      let P : Option (List ℕ) → Type 0 = IsAnswered count many under among row in
+      subst P e h
+
+  front_of : (many : List (List ℕ)) (under : List ℕ) (row : List Bool) (answer : Option (List ℕ))
+      → IsAnswered count many under None row answer → answer ≡ None → IsFront count many under row
+  front_of many under row answer h e =
+      let P : Option (List ℕ) → Type 0 = IsAnswered count many under None row in
+      subst P e h
+
+  pub step_refuted : (clause under core : List ℕ) (among : Option (List ℕ)) (row : List Bool) (answer : Option (List ℕ))
+      → is_foreign (circuit t.design) clause ≡ false → under ≡ step_literals t k f.top clause
+      → IsAnswered count (clauses ++ clause ∷ []) under among row answer → answer ≡ Some core → IsKeptAt t known f k clause
+  step_refuted clause under core among row answer own is h e =
+      let P : List ℕ → Type 0 = λ lits. Closes count (clauses ++ clause ∷ []) lits core in
+      kept_where_closed clause core own (subst P is (closes_of (clauses ++ clause ∷ []) under core among row answer h e))
+
+  pub step_found : (clause under : List ℕ) (row : List Bool) (answer : Option (List ℕ)) → is_foreign (circuit t.design) clause ≡ false
+      → under ≡ step_literals t k f.top clause → IsAnswered count (clauses ++ clause ∷ []) under None row answer → answer ≡ None
+      → length row ≡ t.design.vars + 1 → IsBefore t known f k clause row
+  step_found clause under row answer own is h e width =
+      let P : List ℕ → Type 0 = λ lits. IsFront count (clauses ++ clause ∷ []) lits row in
+      found_is_before clause row own (subst P is (front_of (clauses ++ clause ∷ []) under row answer h e)) width
+
+  pub bad_refuted : (p : ℕ) (under core : List ℕ) (among : Option (List ℕ)) (row : List Bool) (answer : Option (List ℕ))
+      → p < length t.design.bads → under ≡ bad_literals t k f.top p → IsAnswered count clauses under among row answer
+      → answer ≡ Some core → IsGoodFrom t known f k p
+  bad_refuted p under core among row answer within is h e =
+      let P : List ℕ → Type 0 = λ lits. Closes count clauses lits core in
+      good_where_closed p core within (subst P is (closes_of clauses under core among row answer h e))
+
+  pub bad_found : (p : ℕ) (under : List ℕ) (row : List Bool) (answer : Option (List ℕ)) → p < length t.design.bads
+      → under ≡ bad_literals t k f.top p → IsAnswered count clauses under None row answer → answer ≡ None
+      → length row ≡ t.design.vars + 1 → IsBadRow t known f k p row
+  bad_found p under row answer within is h e width =
+      let P : List ℕ → Type 0 = λ lits. IsFront count clauses lits row in
+      found_is_bad p row within (subst P is (front_of clauses under row answer h e)) width
+
 -- ---- the room
 
-pub room_of : (n : Netlist) (row values : List Bool) → IsRoom n row values → IsStep (circuit n) row → IsRoom n values row
-room_of n row values room now = record {
-  wide = room.clear.width;
-  clear = record { width = now.width; rest = now.rest };
-}
+-- the row that was found takes the place of the values
+pub room_swapped : (n : Netlist) (row values new_row new_values : List Bool) → IsClear (circuit n) values → IsStep (circuit n) new_values
+    → new_row ≡ values → new_values ≡ row → IsRoom n new_row new_values
+room_swapped n row values new_row new_values clear now e g =
+    let P : List Bool → Type 0 = λ r. IsRoom n r new_values in
+    subst P (sym e) (record { wide = clear.width; clear = record { width = now.width; rest = now.rest } })
+
+-- ---- above the top
+
+-- a number that no level exceeds
+total : List Entry → ℕ
+total [] = 0
+total (e ∷ es) = e.level + total es
+
+level_is_within : (kept : List Entry) (k : ℕ) (d : Entry) → k < length kept → (get_or kept k d).level ≤ total kept
+unfolding total
+level_is_within [] k d within = absurd (omega (arith, within))
+level_is_within (e ∷ es) zero d within = omega arith
+level_is_within (e ∷ es) (suc k) d within = let later = level_is_within es k d (omega (arith, within)) in omega (arith, later)
+
+-- no clause stands there
+none_above : (c : plain.Circuit) (kept : List Entry) (top : ℕ) (s : List Bool) → IsIn c kept (suc (top + total kept)) s
+none_above c kept top s i d within up = absurd (omega (arith, level_is_within kept i d within, up))
+
+no_switches : (n : Netlist) (k top : ℕ) → top + 1 ≤ k → switches n k top ≡ []
+no_switches n k top up =
+    let none : top + 1 - k ≡ 0 = omega (arith, up) in
+    ap (λ (m : ℕ). map (switch n) (range_with_len k m)) none
+
+same_above : (t : VerificationTask) (top j k : ℕ) (clause : List ℕ) → top + 1 ≤ j → top + 1 ≤ k
+    → step_literals t j top clause ≡ step_literals t k top clause
+same_above t top j k clause low high =
+    ap (λ (l : List ℕ). l ++ held_literals t ++ negated_next t.design clause)
+    (no_switches t.design j top low ∙ sym (no_switches t.design k top high))
+
+-- a refuted question above the top speaks of what is known alone
+pub known_refuted : (t : VerificationTask) (known : List (List ℕ)) (f : Levels) (count : ℕ) (clauses : List (List ℕ)) → IsSound t.design
+    → length t.expected ≡ length t.design.bads → Serves t.design known f count clauses → (k : ℕ) (clause under core : List ℕ)
+    (among : Option (List ℕ)) (row : List Bool) (answer : Option (List ℕ)) → is_foreign (circuit t.design) clause ≡ false
+    → under ≡ step_literals t k f.top clause → IsAnswered count (clauses ++ clause ∷ []) under among row answer → answer ≡ Some core
+    → k ≡ f.top + 1 → IsKept (circuit t.design) t.expected known clause
+known_refuted t known f count clauses sound expected serves k clause under core among row answer own is h e high =
+    let j : ℕ = suc (f.top + total f.kept) in
+    let literals = is ∙ same_above t f.top k j clause (omega (arith, high)) (omega arith) in
+    λ s x v now meets there constrained held.
+    step_refuted t known f count clauses sound expected serves j clause under core among row answer own literals h e s x v now meets
+    (none_above (circuit t.design) f.kept f.top s) there constrained held
+
+pub known_before : (t : VerificationTask) (known : List (List ℕ)) (f : Levels) (k : ℕ) (clause : List ℕ) (values : List Bool)
+    → IsBefore t known f k clause values → k ≡ f.top + 1 → IsBefore t known f (f.top + 1) clause values
+known_before t known f k clause values h high = let P : ℕ → Type 0 = λ j. IsBefore t known f j clause values in subst P high h

@@ -59,7 +59,7 @@ known_joined t list own clause h is good =
 -- ---- a closed list comes to the first one
 
 module _ (list own more : List (List ℕ)) where
-  all : List (List ℕ)
+  abbrev all : List (List ℕ)
   all = list ++ own ++ more
 
   pub all_has_imported : All (Contains (list ++ own ++ more)) (joined list more ++ own)
@@ -115,7 +115,7 @@ starts_where_inductive c set clauses clause h has own = by_test (starts c clause
     by_test true e = refl
     by_test false e =
         let found = falsified_at_start c clause own e in
-        absurd (found.2.1 (All-contains (Meets c found.0) clauses clause (h.starts found.0 found.1) has))
+        absurd (found.2 (All-contains (Meets c found.0) clauses clause (h.starts found.0 found.1) has))
 
 pub are_candidates : (t : VerificationTask) (list own : List (List ℕ)) → IsKnown (problem t) (list ++ own) → All (IsCandidate t) own
 are_candidates t list own h = λ k d within.

@@ -1,5 +1,5 @@
 -- Resets as bits of a row, and a solver that is told of them under the switch of level 0.
-use Rattle.std.proofs.Common.{◌≡◌, ℕ, suc, zero, ◌+◌, ◌≤◌, ◌<◌, ◌||◌, Bool, true, false, not, Option, Some, None, List, [], ◌∷◌, ◌++◌, length, map, get_or, slice_get, nat_lt, refl, sym, ap, subst, ◌∙◌, arith}
+use Rattle.std.proofs.Common.{◌≡◌, ℕ, suc, zero, ◌+◌, ◌≤◌, ◌<◌, ◌||◌, Bool, true, false, not, Option, Some, None, List, [], ◌∷◌, ◌++◌, length, map, get_or, slice_get, nat_le, nat_lt, refl, sym, ap, subst, ◌∙◌, arith}
 use Rattle.std.specs.List.{list_any, All}
 use Rattle.std.proofs.lemmas.Bool.{not-true}
 use Rattle.std.proofs.lemmas.Bool.Decides.{nat_tests}
@@ -153,11 +153,14 @@ says_zero n latch a b is new h =
 
 -- ---- the opened solver
 
+none_below : (k : ℕ) → nat_le (suc k) 0 ≡ true → ⊥
+none_below k e = grind (arith, nat_tests)
+
 pub serves_opened : (n : Netlist) (known before after : List (List ℕ)) (count : ℕ) → AreOwn (circuit n) known
     → before ≡ coded_clauses n ++ known → count ≡ n.vars + 1 + 1 → count ≤ 2147483648
     → Says (AreReset n (length n.latches)) before after → Serves n known (record { top = 0; kept = [] }) count after
 serves_opened n known before after count own is width small says = record {
-  width = width;
+  width = omega (arith, width);
   small = small;
   holds = record {
     step = λ row all. step row all;
@@ -189,4 +192,4 @@ serves_opened n known before after count own is width small says = record {
     by_level : (row : List Bool) (k : ℕ) → IsIn (circuit n) [] k (latch_row (circuit n) row) → IsExactly n 0 k row
         → bit row (switch_var n 0) ≡ true → (j : ℕ) (latch : Latch) → slice_get n.latches j ≡ Some latch → HasReset latch row
     by_level row zero initial exactly on j latch at = resets_from_initial n row initial j latch at
-    by_level row (suc k) there exactly on j latch at = let wrong : true ≡ false = sym on ∙ exactly 0 (omega arith) in absurd cc
+    by_level row (suc k) there exactly on j latch at = absurd (none_below k (sym (exactly 0 (omega arith)) ∙ on))

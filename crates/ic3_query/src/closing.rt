@@ -37,6 +37,7 @@ fn checked(
     ensures { IfOk result (λ closed. closed
         ≡ record { task = coded.now; clauses = joined base.now.clauses candidates.now }) }
 {
+    let _task = coded.task();
     let candidates = copied(alloc, candidates)?;
     match Closed::check(alloc, coded, base, candidates, proofs) {
         Ok(closed) => Ok(closed),
@@ -67,6 +68,8 @@ pub fn close<S: Sat, F: Flag>(
     ensures bounded { TicksAtMost meter.old meter.new
         (length candidates.now * (1 + 3 ^ (coded.now.design.vars + 1))) }
 {
+    let _task = coded.task();
+    base.is_closed();
     match prove_all::<S, F>(alloc, coded, base, candidates, meter, flag)? {
         Proved::All(proofs) => {
             let closed = checked(alloc, coded, base, candidates, proofs)?;

@@ -73,9 +73,9 @@ impl Known {
         requires good { IsForGood (circuit self.old.task.design) self.old.task.expected
             (all_of self.old) clause }
         ensures ok { OnOk result (self.new ≡ record {
-            task = self.old.task;
-            list = self.old.list;
-            own = self.old.own ++ clause ∷ []
+          task = self.old.task;
+          list = self.old.list;
+          own = self.old.own ++ clause ∷ [];
         }) }
         ensures err { OnErr result (self.new ≡ self.old) }
     {
@@ -89,9 +89,9 @@ impl Known {
         requires inductive { IsInductive (circuit self.old.task.design) self.old.task.expected
             (all_of self.old ++ more) }
         ensures ok { OnOk result (self.new ≡ record {
-            task = self.old.task;
-            list = self.old.list;
-            own = self.old.own ++ more
+          task = self.old.task;
+          list = self.old.list;
+          own = self.old.own ++ more;
         }) }
         ensures err { OnErr result (self.new ≡ self.old) }
     {
@@ -123,9 +123,9 @@ impl Known {
     ) -> Result<(), Halt>
         requires { problem self.old.task ≡ problem coded.now }
         ensures ok { OnOk result (self.new ≡ record {
-            task = coded.now;
-            list = joined self.old.list self.old.own;
-            own = []
+          task = coded.now;
+          list = joined self.old.list self.old.own;
+          own = [];
         }) }
         ensures err { OnErr result (self.new ≡ self.old) }
         ensures charged { IsCharged meter.old meter.new result }

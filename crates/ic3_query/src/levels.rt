@@ -42,6 +42,7 @@ pub fn keep<S: Sat>(
     ensures serves { OnOk result (Serves coded.now.design (all_of known.now) frames.new
         (S.count solver.new) (S.added solver.new)) }
 {
+    let _task = coded.task();
     let _own = known.own();
     let guarded = guarded(alloc, coded, level, &clause)?;
     solver.add(alloc, &guarded)?;
@@ -71,6 +72,7 @@ pub fn push<S: Sat>(
     ensures serves { OnOk result (Serves coded.now.design (all_of known.now) frames.new
         (S.count solver.new) (S.added solver.new)) }
 {
+    let _task = coded.task();
     let _own = known.own();
     let guarded = guarded(alloc, coded, level, frames.clause(at))?;
     solver.add(alloc, &guarded)?;
@@ -99,6 +101,7 @@ pub fn import<S: Sat>(
 {
     let _task = coded.task();
     let _top = frames.top();
+    let _own = known.own();
     more.is_closed();
     let added = known.import(alloc, more)?;
     add_all(alloc, solver, added.as_slice())?;

@@ -37,11 +37,7 @@ fn add_unit<S: Sat>(alloc: Global, solver: &mut S, lit: Lit) -> Result<(), Memor
     Ok(())
 }
 
-pub(crate) fn add_units<S: Sat>(
-    alloc: Global,
-    solver: &mut S,
-    lits: &[Lit],
-) -> Result<(), Memory>
+pub(crate) fn add_units<S: Sat>(alloc: Global, solver: &mut S, lits: &[Lit]) -> Result<(), Memory>
     requires { IsBelow (S.count solver.old) lits.now }
     ensures count { S.count solver.new ≡ S.count solver.old }
     ensures added { OnOk result

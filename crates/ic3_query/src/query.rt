@@ -80,6 +80,7 @@ fn ask_whole<S: Probe, F: Flag>(
 ) -> Result<Asked, Halt>
     requires level { level ≤ frames.now.top + 1 }
     requires own { is_foreign (circuit coded.now.design) clause.now ≡ false }
+    requires below { IsBelow (S.count solver.old) under.now }
     requires under { under.now ≡ step_literals coded.now level frames.now.top clause.now }
     requires task { problem known.now.task ≡ problem coded.now }
     requires room { IsRoom coded.now.design room.old.row room.old.vals }
@@ -90,6 +91,8 @@ fn ask_whole<S: Probe, F: Flag>(
     ensures added { S.added solver.new ≡ S.added solver.old }
     ensures answer { IfOk result (AnswersFor coded.now (all_of known.now) frames.now level
         clause.now room.new.vals) }
+    ensures known { level ≡ frames.now.top + 1 → IfOk result (KnownAnswersFor coded.now
+        (all_of known.now) frames.now clause.now room.new.vals) }
     ensures charged { IsCharged meter.old meter.new result }
     ensures later { IsLater meter.old meter.new }
     ensures stopped { OnStopped result (IsFoundRaised F.may_rise F.raised flag.old flag.new) }
@@ -143,6 +146,8 @@ pub fn ask<S: Probe, F: Flag>(
     ensures added { S.added solver.new ≡ S.added solver.old }
     ensures answer { IfOk result (AnswersFor coded.now (all_of known.now) frames.now level
         clause.now room.new.vals) }
+    ensures known { level ≡ frames.now.top + 1 → IfOk result (KnownAnswersFor coded.now
+        (all_of known.now) frames.now clause.now room.new.vals) }
     ensures charged { IsCharged meter.old meter.new result }
     ensures later { IsLater meter.old meter.new }
     ensures stopped { OnStopped result (IsFoundRaised F.may_rise F.raised flag.old flag.new) }
@@ -237,6 +242,7 @@ fn ask_bad_whole<S: Probe, F: Flag>(
 ) -> Result<bool, Halt>
     requires level { level ≤ frames.now.top + 1 }
     requires within { prop < length coded.now.design.bads }
+    requires below { IsBelow (S.count solver.old) under.now }
     requires under { under.now ≡ bad_literals coded.now level frames.now.top prop }
     requires task { problem known.now.task ≡ problem coded.now }
     requires room { IsRoom coded.now.design room.old.row room.old.vals }
@@ -255,14 +261,11 @@ fn ask_bad_whole<S: Probe, F: Flag>(
 {
     let _task = coded.task();
     let _known = known.own();
-    let core = question(alloc, solver, under, None, None, &mut room.row, meter, flag)?;
-    match core {
-        Some(_) => Ok(false),
-        None => {
-            swap(&mut room.row, &mut room.vals);
-            Ok(true)
-        }
+    if let Some(_core) = question(alloc, solver, under, None, None, &mut room.row, meter, flag)? {
+        return Ok(false);
     }
+    swap(&mut room.row, &mut room.vals);
+    Ok(true)
 }
 
 /// Whether a step from a row of the level breaks the property, with no assumption; its values then stand in the room.
@@ -300,7 +303,7 @@ pub fn ask_bad<S: Probe, F: Flag>(
     let _known = known.own();
     let under = bad_literals(alloc, coded, level, frames.top(), prop)?;
     room.cones.mark(coded, coded.bad(prop))?;
-    let closed = question(
+    if let Some(_core) = question(
         alloc,
         solver,
         under.as_slice(),
@@ -309,8 +312,7 @@ pub fn ask_bad<S: Probe, F: Flag>(
         &mut room.row,
         meter,
         flag,
-    )?;
-    if closed.is_some() {
+    )? {
         return Ok(false);
     }
     fill(task.design(), &room.row, &mut room.vals);

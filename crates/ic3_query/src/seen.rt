@@ -1,9 +1,9 @@
 //! What is seen of the values of a step, without a solver. Each test ends at the first fact that fails.
 
-ghost use Rattle.std.specs.Prelude.{◌≡◌, ◌+◌, ◌<◌, true, false, length, All};
+ghost use Rattle.std.specs.Prelude.{◌≡◌, ◌+◌, ◌<◌, ◌≤◌, true, false, length, All};
 ghost use Rattle.std.specs.Bool.{OnTrue};
 ghost use Rattle.std.specs.List.{list_any};
-ghost use Rattle.ja_base.specs.Literals.{AllSatisfiedBy, value, variable};
+ghost use Rattle.ja_base.specs.Literals.{AllSatisfiedBy, SatisfiedBy, value, variable};
 ghost use Rattle.ja_base.specs.Clauses.{IsBelow};
 ghost use Rattle.ja_base.specs.Invariants.{MeetsClauses, latch_value};
 ghost use Rattle.ja_base.specs.Runs.{IsInitial};
@@ -11,6 +11,7 @@ ghost use Rattle.ja_base.specs.Valuation.{MeetsConstraints, latch_row, next_stat
 ghost use Rattle.aig_model.specs.Netlist.{circuit};
 ghost use Rattle.aig_model.specs.Task.{problem};
 ghost use Rattle.ja_project.specs.Latches.{is_foreign};
+ghost use Rattle.ic3_frames.specs.Levels.{IfEntry};
 ghost use Rattle.ic3_frames.specs.Soundness.{IsIn, MeetsAt};
 ghost use Rattle.ic3_query.specs.Known.{all_of};
 ghost use Rattle.ic3_query.specs.Opening.{HasReset};
@@ -116,6 +117,19 @@ fn is_initial(design: &Design, vals: &Row) -> bool
     true
 }
 
+/// Whether the clause of this place holds, if it stands at the level.
+fn holds_at(frames: &Frames, at: u32, level: u32, vals: &Row) -> bool
+    requires within { at < length frames.now.kept }
+    requires below { All (λ e. IsBelow (length vals.now) e.clause) frames.now.kept }
+    ensures { OnTrue result (IfEntry frames.now.kept at
+        (λ e. level ≤ e.level → SatisfiedBy (value vals.now) e.clause)) }
+{
+    if frames.level(at) < level {
+        return true;
+    }
+    frames.clause(at).holds_in(vals)
+}
+
 fn meets_level(coded: &Coded, frames: &Frames, level: u32, vals: &Row) -> bool
     requires levels { AreOwnLevels coded.now.design frames.now.kept }
     requires width { length vals.now ≡ coded.now.design.vars + 1 }
@@ -124,7 +138,7 @@ fn meets_level(coded: &Coded, frames: &Frames, level: u32, vals: &Row) -> bool
 {
     let _task = coded.task();
     for at in 0..frames.len() {
-        if frames.level(at) >= level && !frames.clause(at).holds_in(vals) {
+        if !holds_at(frames, at, level, vals) {
             return false;
         }
     }

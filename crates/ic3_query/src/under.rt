@@ -1,6 +1,7 @@
 //! What a question assumes.
 
-ghost use Rattle.std.specs.Prelude.{◌≡◌, ◌+◌, ◌<◌, ◌≤◌, ◌^◌, ◌++◌, false, IfOk, OnOk, length};
+ghost use Rattle.std.specs.Prelude.{◌≡◌, ◌+◌, ◌<◌, ◌^◌, ◌++◌, false, IfOk, OnOk, length};
+ghost use Rattle.ja_base.specs.Clauses.{IsBelow};
 ghost use Rattle.aig_model.specs.Netlist.{circuit};
 ghost use Rattle.ja_project.specs.Latches.{is_foreign};
 ghost use Rattle.ic3_query.specs.Under.{bad_literals, step_literals, switches};
@@ -16,8 +17,8 @@ fn switches(alloc: Global, coded: &Coded, level: u32, top: u32) -> Result<Lits, 
     ensures { IfOk result (λ lits. lits ≡ switches coded.now.design level top) }
 {
     let mut lits = Lits::new(alloc);
-    for level in level..top + 1 {
-        lits.push(switch(coded, level))?;
+    for at in level..top + 1 {
+        lits.push(switch(coded, at))?;
     }
     Ok(lits)
 }
@@ -41,7 +42,8 @@ pub(crate) fn step_literals(
 ) -> Result<Lits, Memory>
     requires small { coded.now.design.vars + 1 + top < 2 ^ 31 }
     requires own { is_foreign (circuit coded.now.design) clause.now ≡ false }
-    ensures { IfOk result (λ lits. lits ≡ step_literals coded.now level top clause.now) }
+    ensures value { IfOk result (λ lits. lits ≡ step_literals coded.now level top clause.now) }
+    ensures below { IfOk result (IsBelow (coded.now.design.vars + 1 + top + 1)) }
 {
     let mut lits = switches(alloc, coded, level, top)?;
     add_lits(&mut lits, coded.held())?;
@@ -60,7 +62,8 @@ pub(crate) fn bad_literals(
 ) -> Result<Lits, Memory>
     requires small { coded.now.design.vars + 1 + top < 2 ^ 31 }
     requires within { prop < length coded.now.design.bads }
-    ensures { IfOk result (λ lits. lits ≡ bad_literals coded.now level top prop) }
+    ensures value { IfOk result (λ lits. lits ≡ bad_literals coded.now level top prop) }
+    ensures below { IfOk result (IsBelow (coded.now.design.vars + 1 + top + 1)) }
 {
     let mut lits = switches(alloc, coded, level, top)?;
     lits.push(coded.bad(prop))?;
