@@ -77,7 +77,8 @@ switches_on n v k top width =
     ∙ switched_bit n v k top j width (omega (arith, is, short)) ∙ up_is_on k j (omega (arith, is)))
 
 -- a row in which the switches of a question are on
-on_from_switches : (n : Netlist) (row : List Bool) (k top : ℕ) → All (λ l. value row l ≡ true) (switches n k top) → IsOn n top k row
+on_from_switches : (n : Netlist) (row : List Bool) (k top : ℕ) → All (λ l. value row l ≡ true) (switches n k top)
+    → IsOn n top k row
 on_from_switches n row k top h j up within =
     let short : j - k < top + 1 - k = omega (arith, up, within) in
     let is : get_or (switches n k top) (j - k) 0 ≡ switch n j =
@@ -96,7 +97,8 @@ bad_is_below t sound p within =
 switched_same : (n : Netlist) (v : List Bool) (k top : ℕ) → length v ≡ n.vars + 1 → AreSame (n.vars + 1) (switched v k top) v
 switched_same n v k top width u low = get_or_append_left v (switch_bits k top) false u (omega (arith, low, width))
 
-module _ (t : VerificationTask) (known : List (List ℕ)) (f : Levels) (count : ℕ) (clauses : List (List ℕ)) (sound : IsSound t.design)
+module _ (t : VerificationTask) (known : List (List ℕ)) (f : Levels) (count : ℕ) (clauses : List (List ℕ))
+    (sound : IsSound t.design)
     (expected : length t.expected ≡ length t.design.bads) (serves : Serves t.design known f count clauses) (k : ℕ) where
   -- a step from the level, with the switches of the level
   record IsStepFrom (s x v : List Bool) : Type 0 where
@@ -254,7 +256,8 @@ module _ (t : VerificationTask) (known : List (List ℕ)) (f : Levels) (count : 
       let P : ℕ → Type 0 = λ l. value whole l ≡ true in
       let same = front_same (clauses ++ clause ∷ []) (step_literals t k f.top clause) row front width in
       let all = first_part whole clauses (clause ∷ []) front.meets.clauses_hold in
-      let parts = all_part P (switches t.design k f.top ++ held_literals t) (negated_next t.design clause) front.meets.under_holds in
+      let parts = all_part P (switches t.design k f.top ++ held_literals t)
+          (negated_next t.design clause) front.meets.under_holds in
       let low = all_part P (switches t.design k f.top) (held_literals t) parts.0 in
       let back : AreSame (t.design.vars + 1) whole row = λ u below. sym (same u below) in
       let now = found_now whole row all width same in
@@ -269,7 +272,8 @@ module _ (t : VerificationTask) (known : List (List ℕ)) (f : Levels) (count : 
         level = found_level whole row all width same low.0;
         outside = subst Q (found_state whole row all width same)
             (met_by_latches c whole clause own (last_part whole clauses clause front.meets.clauses_hold));
-        later = ap (λ (state : List Bool). list_any (latch_value c.latches state) clause) (same_nexts t.design sound row whole same)
+        later = ap (λ (state : List Bool). list_any (latch_value c.latches state) clause)
+            (same_nexts t.design sound row whole same)
             ∙ later_false t.design whole clause zero_bit parts.1;
       }
 
@@ -312,7 +316,8 @@ module _ (t : VerificationTask) (known : List (List ℕ)) (f : Levels) (count : 
       let P : List ℕ → Type 0 = λ lits. Closes count (clauses ++ clause ∷ []) lits core in
       kept_where_closed clause core own (subst P is (closes_of (clauses ++ clause ∷ []) under core among row answer h e))
 
-  pub step_found : (clause under : List ℕ) (row : List Bool) (answer : Option (List ℕ)) → is_foreign (circuit t.design) clause ≡ false
+  pub step_found : (clause under : List ℕ) (row : List Bool) (answer : Option (List ℕ))
+      → is_foreign (circuit t.design) clause ≡ false
       → under ≡ step_literals t k f.top clause → IsAnswered count (clauses ++ clause ∷ []) under None row answer → answer ≡ None
       → length row ≡ t.design.vars + 1 → IsBefore t known f k clause row
   step_found clause under row answer own is h e width =
@@ -336,7 +341,8 @@ module _ (t : VerificationTask) (known : List (List ℕ)) (f : Levels) (count : 
 -- ---- the room
 
 -- the row that was found takes the place of the values
-pub room_swapped : (n : Netlist) (row values new_row new_values : List Bool) → IsClear (circuit n) values → IsStep (circuit n) new_values
+pub room_swapped : (n : Netlist) (row values new_row new_values : List Bool) → IsClear (circuit n) values
+    → IsStep (circuit n) new_values
     → new_row ≡ values → new_values ≡ row → IsRoom n new_row new_values
 room_swapped n row values new_row new_values clear now e g =
     let P : List Bool → Type 0 = λ r. IsRoom n r new_values in
@@ -371,16 +377,19 @@ same_above t top j k clause low high =
     (no_switches t.design j top low ∙ sym (no_switches t.design k top high))
 
 -- a refuted question above the top speaks of what is known alone
-pub known_refuted : (t : VerificationTask) (known : List (List ℕ)) (f : Levels) (count : ℕ) (clauses : List (List ℕ)) → IsSound t.design
+pub known_refuted : (t : VerificationTask) (known : List (List ℕ)) (f : Levels) (count : ℕ) (clauses : List (List ℕ))
+    → IsSound t.design
     → length t.expected ≡ length t.design.bads → Serves t.design known f count clauses → (k : ℕ) (clause under core : List ℕ)
     (among : Option (List ℕ)) (row : List Bool) (answer : Option (List ℕ)) → is_foreign (circuit t.design) clause ≡ false
-    → under ≡ step_literals t k f.top clause → IsAnswered count (clauses ++ clause ∷ []) under among row answer → answer ≡ Some core
+    → under ≡ step_literals t k f.top clause → IsAnswered count (clauses ++ clause ∷ []) under among row answer
+        → answer ≡ Some core
     → k ≡ f.top + 1 → IsKept (circuit t.design) t.expected known clause
 known_refuted t known f count clauses sound expected serves k clause under core among row answer own is h e high =
     let j : ℕ = suc (f.top + total f.kept) in
     let literals = is ∙ same_above t f.top k j clause (omega (arith, high)) (omega arith) in
     λ s x v now meets there constrained held.
-    step_refuted t known f count clauses sound expected serves j clause under core among row answer own literals h e s x v now meets
+    step_refuted t known f count clauses sound expected serves j clause under core among row answer own literals h e s x v now
+        meets
     (none_above (circuit t.design) f.kept f.top s) there constrained held
 
 pub known_before : (t : VerificationTask) (known : List (List ℕ)) (f : Levels) (k : ℕ) (clause : List ℕ) (values : List Bool)

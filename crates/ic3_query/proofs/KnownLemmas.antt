@@ -1,6 +1,7 @@
 -- What is known stays inductive where clauses come, and becomes part of the closed list.
 use Rattle.std.proofs.Common.{◌≡◌, ℕ, Bool, true, false, List, [], ◌∷◌, ◌++◌, get_or, refl, sym, subst, arith}
-use Rattle.std.specs.List.{All}
+use Rattle.std.specs.List.{list_any, All}
+use Rattle.std.proofs.lemmas.Bool.{both_ways}
 use Rattle.std.specs.Prelude.{Contains}
 use Rattle.std.proofs.lemmas.List.{append-nil, append_assoc}
 use Rattle.std.proofs.lemmas.List.Elements.{All-append, All-push, All-nil, All-cons, All-contains, Contains-get_or, Contains-append_left, Contains-append_right}
@@ -10,17 +11,17 @@ use Rattle.ja_base.specs.ClauseSets.{joined}
 use Rattle.ja_base.specs.Valuation.{next_state}
 use Rattle.ja_base.specs.Invariants.{latch_value, MeetsClauses, IsInductive}
 use Rattle.ja_base.proofs.JoinLemmas.{first_is_part, second_is_part, joined_has_first, joined_has_second, All-joined}
-use Rattle.aig_model.specs.Netlist.{circuit}
+use Rattle.aig_model.specs.Netlist.{Netlist, IsSound, circuit}
 use Rattle.aig_model.specs.Task.{VerificationTask, problem}
 use Rattle.ja_project.specs.Latches.{is_foreign}
 use Rattle.ja_project.specs.Start.{starts}
-use Rattle.ja_project.proofs.StartLemmas.{falsified_at_start}
+use Rattle.ja_project.proofs.StartLemmas.{falsified_at_start, own_vars, starts_false}
 use Rattle.inv_cert.specs.Closed.{IsClosed}
 use Rattle.inv_cert.specs.Proofs.{IsCandidate}
 use Rattle.inv_cert.proofs.InductionLemmas.{All-part, IsInductive-same, IsInductive-append}
 use Rattle.inv_cert.proofs.JoinLemmas.{IsInductive-joined}
 use Rattle.ic3_frames.specs.Soundness.{Meets}
-use Rattle.ic3_query.specs.Known.{AreOwn, IsKnown, IsForGood}
+use Rattle.ic3_query.specs.Known.{AreOwn, HoldsAtStart, IsKnown, IsForGood}
 
 pub known_of : (t : Problem) (clauses : List (List ℕ)) → IsClosed t clauses → IsKnown t (clauses ++ [])
 known_of t clauses h =
@@ -41,7 +42,8 @@ pub inductive_with : (c : Circuit) (set : List Bool) (known : List (List ℕ)) (
 inductive_with c set known clause h good = record {
   starts = λ s initial. All-push (Meets c s) known clause (h.starts s initial) (good.starts s initial);
   steps = λ s x v now meets constrained held.
-      let of_known : MeetsClauses c s known = All-part (Meets c s) (known ++ clause ∷ []) known meets (first_is_part known (clause ∷ [])) in
+      let of_known : MeetsClauses c s known = All-part (Meets c s) (known ++ clause ∷ []) known meets
+          (first_is_part known (clause ∷ [])) in
       let of_clause : MeetsClauses c s (clause ∷ []) =
       All-part (Meets c s) (known ++ clause ∷ []) (clause ∷ []) meets (second_is_part known (clause ∷ [])) in
       All-push (Meets c (next_state c v)) known clause (h.steps s x v now of_known constrained held)
@@ -107,7 +109,8 @@ known_closed t list own h =
     })
 
 -- an inductive clause agrees with a reset
-pub starts_where_inductive : (c : Circuit) (set : List Bool) (clauses : List (List ℕ)) (clause : List ℕ) → IsInductive c set clauses
+pub starts_where_inductive : (c : Circuit) (set : List Bool) (clauses : List (List ℕ)) (clause : List ℕ)
+    → IsInductive c set clauses
     → Contains clauses clause → is_foreign c clause ≡ false → starts c clause ≡ true
 starts_where_inductive c set clauses clause h has own = by_test (starts c clause) refl
   where
@@ -117,7 +120,8 @@ starts_where_inductive c set clauses clause h has own = by_test (starts c clause
         let found = falsified_at_start c clause own e in
         absurd (found.2 (All-contains (Meets c found.0) clauses clause (h.starts found.0 found.1) has))
 
-pub are_candidates : (t : VerificationTask) (list own : List (List ℕ)) → IsKnown (problem t) (list ++ own) → All (IsCandidate t) own
+pub are_candidates : (t : VerificationTask) (list own : List (List ℕ)) → IsKnown (problem t) (list ++ own)
+    → All (IsCandidate t) own
 are_candidates t list own h = λ k d within.
     let clause : List ℕ = get_or own k d in
     let is : is_foreign (circuit t.design) clause ≡ false =
@@ -127,3 +131,16 @@ are_candidates t list own h = λ k d within.
       begins = starts_where_inductive (circuit t.design) t.expected (list ++ own) clause h.inductive
           (Contains-append_right list own clause (Contains-get_or own k d within)) is;
     }
+
+-- each initial row meets a clause that agrees with a reset
+pub holds_where_starts : (n : Netlist) → IsSound n → (clause : List ℕ) → starts (circuit n) clause ≡ true
+    → HoldsAtStart (circuit n) clause
+holds_where_starts n sound clause begins s initial =
+    by_test (list_any (latch_value (circuit n).latches s) clause) refl
+  where
+    by_test : (b : Bool) → list_any (latch_value (circuit n).latches s) clause ≡ b → b ≡ true
+    by_test true e = refl
+    by_test false e =
+        absurd (both_ways (starts (circuit n) clause)
+        (starts_false (circuit n) clause (own_vars n sound) (s, initial, λ met. both_ways
+        (list_any (latch_value (circuit n).latches s) clause) e met)) begins)

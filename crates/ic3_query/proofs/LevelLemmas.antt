@@ -27,7 +27,8 @@ serves_as n known f count seen_count clauses seen e g h =
     subst P (sym e) (subst Q (sym g) h)
 
 -- a clause is kept under the switch of its level
-pub serves_added : (n : Netlist) (known : List (List ℕ)) (old new : Levels) (level : ℕ) (clause guarded : List ℕ) (count seen_count : ℕ)
+pub serves_added : (n : Netlist) (known : List (List ℕ)) (old new : Levels) (level : ℕ) (clause guarded : List ℕ)
+    (count seen_count : ℕ)
     (clauses seen : List (List ℕ)) → Serves n known old count clauses → level ≤ old.top → is_foreign (circuit n) clause ≡ false
     → HoldsAtStart (circuit n) clause → IsGuarded n level clause guarded → seen_count ≡ count → seen ≡ clauses ++ guarded ∷ []
     → new.kept ≡ added clause level old.kept → new.top ≡ old.top → Serves n known new seen_count seen
@@ -40,7 +41,8 @@ serves_added n known old new level clause guarded count seen_count clauses seen 
 -- a clause was moved up
 pub serves_moved : (n : Netlist) (known : List (List ℕ)) (old new : Levels) (at level : ℕ) (clause guarded : List ℕ)
     (count seen_count : ℕ) (clauses seen : List (List ℕ)) → Serves n known old count clauses → level ≤ old.top
-    → IsMovable n old at level → IfEntry old.kept at (λ e. e.clause ≡ clause) → IsGuarded n level clause guarded → seen_count ≡ count
+    → IsMovable n old at level → IfEntry old.kept at (λ e. e.clause ≡ clause) → IsGuarded n level clause guarded
+        → seen_count ≡ count
     → seen ≡ clauses ++ guarded ∷ [] → IfEntry old.kept at (λ e. new.kept ≡ moved old.kept at e level) → new.top ≡ old.top
     → Serves n known new seen_count seen
 serves_moved n known old new at level clause guarded count seen_count clauses seen h high m there is e g kept top =
@@ -71,9 +73,11 @@ serves_extended n f old new more seen_more count seen_count clauses seen h own e
     (g ∙ ap (λ (m : List (List ℕ)). clauses ++ m) same) raw))
 
 -- a clause became known, and stands at the top
-pub serves_joined : (n : Netlist) (before after : Levels) (old new : KnownList) (level : ℕ) (clause : List ℕ) (count seen_count : ℕ)
+pub serves_joined : (n : Netlist) (before after : Levels) (old new : KnownList) (level : ℕ) (clause : List ℕ)
+    (count seen_count : ℕ)
     (clauses seen : List (List ℕ)) → Serves n (all_of old) before count clauses → is_foreign (circuit n) clause ≡ false
-    → seen_count ≡ count → seen ≡ clauses ++ clause ∷ [] → new ≡ record { task = old.task; list = old.list; own = old.own ++ clause ∷ [] }
+    → seen_count ≡ count → seen ≡ clauses ++ clause ∷ []
+        → new ≡ record { task = old.task; list = old.list; own = old.own ++ clause ∷ [] }
     → after.kept ≡ added clause level before.kept → after.top ≡ before.top → Serves n (all_of new) after seen_count seen
 serves_joined n before after old new level clause count seen_count clauses seen h own e g is kept top =
     let R : List ℕ → Type 0 = λ c. is_foreign (circuit n) c ≡ false in
@@ -97,7 +101,8 @@ fresh_is_own n list more own_list own_more =
     All-part P (list ++ fresh list more) (fresh list more) whole (second_is_part list (fresh list more))
 
 -- a closed list became known
-pub serves_imported : (n : Netlist) (f : Levels) (old new : KnownList) (more fresh_more seen_more : List (List ℕ)) (count seen_count : ℕ)
+pub serves_imported : (n : Netlist) (f : Levels) (old new : KnownList) (more fresh_more seen_more : List (List ℕ))
+    (count seen_count : ℕ)
     (clauses seen : List (List ℕ)) → Serves n (all_of old) f count clauses → AreOwn (circuit n) old.list → AreOwn (circuit n) more
     → seen_count ≡ count → seen ≡ clauses ++ seen_more → seen_more ≡ fresh_more → fresh_more ≡ fresh old.list more
     → new.list ≡ joined old.list more → new.own ≡ old.own → Serves n (all_of new) f seen_count seen
@@ -108,9 +113,11 @@ serves_imported n f old new more fresh_more seen_more count seen_count clauses s
     ∙ sym (joined_is_fresh old.list more) in
     let raw : Serves n (joined old.list (fresh old.list more) ++ old.own) f count (clauses ++ fresh old.list more) =
     serves_known n (all_of old) (fresh old.list more) (joined old.list (fresh old.list more) ++ old.own) own_fresh
-    (all_has_imported old.list old.own (fresh old.list more)) (imported_has_all old.list old.own (fresh old.list more)) f count clauses h in
+    (all_has_imported old.list old.own (fresh old.list more)) (imported_has_all old.list old.own (fresh old.list more)) f count
+        clauses h in
     let S : List (List ℕ) → Type 0 = λ known. Serves n known f seen_count seen in
     let known : joined old.list (fresh old.list more) ++ old.own ≡ all_of new =
     ap (λ (m : List (List ℕ)). m ++ old.own) (again ∙ sym list) ∙ ap (λ (m : List (List ℕ)). new.list ++ m) (sym own) in
-    subst S known (serves_as n (joined old.list (fresh old.list more) ++ old.own) f count seen_count (clauses ++ fresh old.list more) seen e
+    subst S known
+        (serves_as n (joined old.list (fresh old.list more) ++ old.own) f count seen_count (clauses ++ fresh old.list more) seen e
     (g ∙ ap (λ (m : List (List ℕ)). clauses ++ m) (same ∙ is)) raw)

@@ -68,7 +68,8 @@ pub Says-more : (n : Netlist) (k : ℕ) (latch : Latch) (a b c : List (List ℕ)
     → slice_get n.latches k ≡ Some latch → Says (IsReset n latch) b c → Says (AreReset n (k + 1)) a c
 Says-more n k latch a b c g at h = record {
   forth = λ row all said.
-      h.forth row (g.forth row all (λ j other within is. said j other (omega (arith, within)) is)) (said k latch (omega arith) at);
+      h.forth row (g.forth row all (λ j other within is. said j other (omega (arith, within)) is))
+          (said k latch (omega arith) at);
   back = λ row all. g.back row (h.back row all);
   gained = λ row all j other within is. by_place row all j other within is;
 }
@@ -128,7 +129,8 @@ false_is : (b : Bool) → Some false ≡ Some b → b ≡ false
 false_is false e = refl
 false_is true e = absurd cc
 
-pub says_free : (n : Netlist) (latch : Latch) (clauses : List (List ℕ)) → latch.reset ≡ Free → Says (IsReset n latch) clauses clauses
+pub says_free : (n : Netlist) (latch : Latch) (clauses : List (List ℕ)) → latch.reset ≡ Free
+    → Says (IsReset n latch) clauses clauses
 says_free n latch clauses free = record {
   forth = λ row all h. all;
   back = λ row all. all;
@@ -181,13 +183,16 @@ serves_opened n known before after count own is width small says = record {
 
     at_level : (row : List Bool) → AllSatisfiedBy (value row) after → (k : ℕ) → IsOn n 0 k row
         → IsIn (circuit n) [] k (latch_row (circuit n) row)
-    at_level row all zero on = initial_from_resets n row (λ j latch within at. says.gained row all j latch within at (on 0 (omega arith) (omega arith)))
-    at_level row all (suc k) on = All-nil (λ (e : Entry). suc k ≤ e.level → Meets (circuit n) (latch_row (circuit n) row) e.clause)
+    at_level row all zero on = initial_from_resets n row
+        (λ j latch within at. says.gained row all j latch within at (on 0 (omega arith) (omega arith)))
+    at_level row all (suc k) on = All-nil
+        (λ (e : Entry). suc k ≤ e.level → Meets (circuit n) (latch_row (circuit n) row) e.clause)
 
     met_before : (row : List Bool) → IsKnownStep n known row → AllSatisfiedBy (value row) before
     met_before row h =
         let P : List (List ℕ) → Type 0 = AllSatisfiedBy (value row) in
-        subst P (sym is) (All-append (SatisfiedBy (value row)) (coded_clauses n) known h.coded (met_now (circuit n) row known own h.known_met))
+        subst P (sym is)
+            (All-append (SatisfiedBy (value row)) (coded_clauses n) known h.coded (met_now (circuit n) row known own h.known_met))
 
     by_level : (row : List Bool) (k : ℕ) → IsIn (circuit n) [] k (latch_row (circuit n) row) → IsExactly n 0 k row
         → bit row (switch_var n 0) ≡ true → (j : ℕ) (latch : Latch) → slice_get n.latches j ≡ Some latch → HasReset latch row

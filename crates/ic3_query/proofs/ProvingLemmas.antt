@@ -31,7 +31,8 @@ pub record AreProved (t : VerificationTask) (base candidates : List (List ℕ)) 
 pub AreProved-none : (t : VerificationTask) (base candidates : List (List ℕ)) → AreProved t base candidates [] 0
 AreProved-none t base candidates = record { many = refl; each = λ k clause within at. absurd (omega (arith, within)) }
 
-pub AreProved-more : (t : VerificationTask) (base candidates : List (List ℕ)) (proofs : List Refuted) (number : ℕ) (clause : List ℕ)
+pub AreProved-more : (t : VerificationTask) (base candidates : List (List ℕ)) (proofs : List Refuted) (number : ℕ)
+    (clause : List ℕ)
     (proof : Refuted) → AreProved t base candidates proofs number → slice_get candidates number ≡ Some clause
     → IsProofOf t base candidates clause proof → AreProved t base candidates (proofs ++ proof ∷ []) (number + 1)
 AreProved-more t base candidates proofs number clause proof h at shows = record {
@@ -77,7 +78,8 @@ open_refutes t base candidates number sound expected own_base own inductive h =
     (All-append (λ c. is_foreign (circuit t.design) c ≡ false) base candidates own_base own) has h.meets inductive
 
 -- a proof that was found
-pub proof_found : (t : VerificationTask) (base candidates added : List (List ℕ)) (clause : List ℕ) (answer : Option Refuted) (proof : Refuted)
+pub proof_found : (t : VerificationTask) (base candidates added : List (List ℕ)) (clause : List ℕ) (answer : Option Refuted)
+    (proof : Refuted)
     → added ≡ step_clauses t base candidates → IsSolved (t.design.vars + 1) added (negated_next t.design clause) answer
     → answer ≡ Some proof → IsProofOf t base candidates clause proof
 proof_found t base candidates added clause answer proof is h e =

@@ -92,7 +92,8 @@ holds_guarded n level clause guarded row is h on =
 
 pub set_is_below : (n : ℕ) (lits set : List ℕ) → IsSetOf lits set → IsBelow n lits → IsBelow n set
 set_is_below n lits set is below = λ k d within.
-    All-contains (λ l. variable l < n) lits (get_or set k d) below ((is.members (get_or set k d)).0 (Contains-get_or set k d within))
+    All-contains (λ l. variable l < n) lits (get_or set k d) below
+        ((is.members (get_or set k d)).0 (Contains-get_or set k d within))
 
 pub guarded_is_below : (n : Netlist) (level count : ℕ) (clause guarded : List ℕ) → IsGuarded n level clause guarded
     → IsBelow (n.vars + 1) clause → n.vars + 1 + level < count → IsBelow count guarded
@@ -120,19 +121,23 @@ any_same n row other (l ∷ ls) same low =
 
 pub all_same : (n : ℕ) (row other : List Bool) (clauses : List (List ℕ)) → AreSame n row other → All (IsBelow n) clauses
     → AllSatisfiedBy (value other) clauses → AllSatisfiedBy (value row) clauses
-all_same n row other clauses same low h = λ k d within. any_same n row other (get_or clauses k d) same (low k d within) ∙ h k d within
+all_same n row other clauses same low h = λ k d within. any_same n row other (get_or clauses k d) same (low k d within)
+    ∙ h k d within
 
 pub lits_same : (n : ℕ) (row other : List Bool) (lits : List ℕ) → AreSame n row other → IsBelow n lits
     → All (λ l. value other l ≡ true) lits → All (λ l. value row l ≡ true) lits
-lits_same n row other lits same low h = λ k d within. value_same n row other (get_or lits k d) same (low k d within) ∙ h k d within
+lits_same n row other lits same low h = λ k d within. value_same n row other (get_or lits k d) same (low k d within)
+    ∙ h k d within
 
 pub same_latches : (n : Netlist) → IsSound n → (row other : List Bool) → AreSame (n.vars + 1) row other
     → latch_row (circuit n) row ≡ latch_row (circuit n) other
 same_latches n sound row other same = each n.latches (λ k d within.
-    new_is_below n.vars (get_or n.latches k d).lit (sound.latches k (get_or n.latches k d) (slice_get-get_or n.latches k d within)).lit)
+    new_is_below n.vars (get_or n.latches k d).lit
+        (sound.latches k (get_or n.latches k d) (slice_get-get_or n.latches k d within)).lit)
   where
     each : (ls : List Latch) → All (λ (l : Latch). variable l.lit < n.vars + 1) ls
-        → map (λ (l : plain.Latch). bit row l.var) (map latch_of ls) ≡ map (λ (l : plain.Latch). bit other l.var) (map latch_of ls)
+        → map (λ (l : plain.Latch). bit row l.var) (map latch_of ls) ≡ map (λ (l : plain.Latch). bit other l.var)
+            (map latch_of ls)
     each [] low = refl
     each (l ∷ ls) low =
         ap (λ (b : Bool). b ∷ map (λ (l : plain.Latch). bit row l.var) (map latch_of ls))
@@ -147,7 +152,8 @@ same_nexts n sound row other same = each n.latches (λ k d within.
     (sound.latches k (get_or n.latches k d) (slice_get-get_or n.latches k d within)).next.within)
   where
     each : (ls : List Latch) → All (λ (l : Latch). variable l.next < n.vars + 1) ls
-        → map (λ (l : plain.Latch). value row l.next) (map latch_of ls) ≡ map (λ (l : plain.Latch). value other l.next) (map latch_of ls)
+        → map (λ (l : plain.Latch). value row l.next) (map latch_of ls) ≡ map (λ (l : plain.Latch). value other l.next)
+            (map latch_of ls)
     each [] low = refl
     each (l ∷ ls) low =
         ap (λ (b : Bool). b ∷ map (λ (l : plain.Latch). value row l.next) (map latch_of ls))

@@ -37,7 +37,8 @@ pub below_at : (n : Netlist) → IsSound n → (clauses : List (List ℕ)) (at c
 below_at n sound clauses at count clause own is wide k d within =
     omega (arith, own_is_below n sound clause (own_at n sound clauses at count clause own is) k d within, wide)
 
-pub are_below : (n : Netlist) → IsSound n → (clauses : List (List ℕ)) (count : ℕ) → AreOwn (circuit n) clauses → n.vars + 1 ≤ count
+pub are_below : (n : Netlist) → IsSound n → (clauses : List (List ℕ)) (count : ℕ) → AreOwn (circuit n) clauses
+    → n.vars + 1 ≤ count
     → All (IsBelow count) clauses
 are_below n sound clauses count own wide j c within k d low =
     omega (arith, own_is_below n sound (get_or clauses j c) (own j c within) k d low, wide)

@@ -62,7 +62,8 @@ module _ (n : Netlist) (known : List (List ℕ)) (old new : Levels) (level : ℕ
   fits_gained : Fits n known old clauses → Fits n known new (clauses ++ guarded ∷ [])
   fits_gained h row step zero initial exactly =
       All-push (SatisfiedBy (value row)) clauses guarded (h row step 0 initial (was_exactly 0 row exactly))
-      (guarded_holds n level clause guarded row is (λ _. met_in_row (circuit n) row clause own (begins (latch_row (circuit n) row) initial)))
+      (guarded_holds n level clause guarded row is
+          (λ _. met_in_row (circuit n) row clause own (begins (latch_row (circuit n) row) initial)))
   fits_gained h row step (suc k) there exactly =
       All-push (SatisfiedBy (value row)) clauses guarded
       (h row step (suc k) (gains.back (suc k) (latch_row (circuit n) row) there) (was_exactly (suc k) row exactly))
@@ -97,7 +98,8 @@ serves_grown n known old new count clauses is small h =
 -- clauses that are known, with no switch
 module _ (n : Netlist) (known more now : List (List ℕ)) (own : AreOwn (circuit n) more)
     (all : All (Contains (known ++ more)) now) (both : All (Contains now) (known ++ more)) where
-  now_met : (row : List Bool) → MeetsClauses (circuit n) row known → MeetsClauses (circuit n) row more → MeetsClauses (circuit n) row now
+  now_met : (row : List Bool) → MeetsClauses (circuit n) row known → MeetsClauses (circuit n) row more
+      → MeetsClauses (circuit n) row now
   now_met row a b =
       let P : List ℕ → Type 0 = SatisfiedBy (latch_value (circuit n).latches row) in
       All-part P (known ++ more) now (All-append P known more a b) all
@@ -109,7 +111,8 @@ module _ (n : Netlist) (known more now : List (List ℕ)) (own : AreOwn (circuit
       → IsKnownStep n known row → IsKnownStep n now row
   step_now clauses row h step = record {
     coded = step.coded;
-    known_met = now_met (latch_row (circuit n) row) step.known_met (met_back (circuit n) row more own (second_part row clauses more h));
+    known_met = now_met (latch_row (circuit n) row) step.known_met
+        (met_back (circuit n) row more own (second_part row clauses more h));
   }
 
   step_before : (row : List Bool) → IsKnownStep n now row → IsKnownStep n known row
@@ -146,7 +149,8 @@ module _ (n : Netlist) (known : List (List ℕ)) (old new : Levels) (clause : Li
       All-part (SatisfiedBy (latch_value (circuit n).latches row)) (known ++ clause ∷ []) (clause ∷ []) h
       (second_is_part known (clause ∷ [])) 0 [] (omega arith)
 
-  in_new : (row : List Bool) (k : ℕ) → IsKnownStep n (known ++ clause ∷ []) row → IsIn (circuit n) old.kept k (latch_row (circuit n) row)
+  in_new : (row : List Bool) (k : ℕ) → IsKnownStep n (known ++ clause ∷ []) row
+      → IsIn (circuit n) old.kept k (latch_row (circuit n) row)
       → IsIn (circuit n) new.kept k (latch_row (circuit n) row)
   in_new row zero step h = h
   in_new row (suc k) step h =
@@ -167,5 +171,6 @@ module _ (n : Netlist) (known : List (List ℕ)) (old new : Levels) (clause : Li
       level = λ row all k on. in_new row k (h.holds.step row all)
           (h.holds.level row all k (λ j up within. on j up (omega (arith, within, top))));
     };
-    fits = λ row step k there exactly. h.fits row step k (in_old row k there) (λ j within. exactly j (omega (arith, within, top)));
+    fits = λ row step k there exactly. h.fits row step k (in_old row k there)
+        (λ j within. exactly j (omega (arith, within, top)));
   }

@@ -20,7 +20,8 @@ range_push a (suc n) =
     ap (λ (l : List ℕ). a ∷ l) (range_push (a + 1) n ∙ ap (λ (m : ℕ). range_with_len (a + 1) n ++ m ∷ []) (omega arith))
 
 -- one switch more
-pub switches_more : (n : Netlist) (level at : ℕ) (old new : List ℕ) → level ≤ at → old ≡ map (switch n) (range_with_len level (at - level))
+pub switches_more : (n : Netlist) (level at : ℕ) (old new : List ℕ) → level ≤ at
+    → old ≡ map (switch n) (range_with_len level (at - level))
     → new ≡ old ++ switch n at ∷ [] → new ≡ map (switch n) (range_with_len level (at + 1 - level))
 switches_more n level at old new up is push =
     let count : at + 1 - level ≡ suc (at - level) = omega (arith, up) in
@@ -46,7 +47,8 @@ switches_below n k top =
 lower_below : (few many : ℕ) (lits : List ℕ) → few ≤ many → IsBelow few lits → IsBelow many lits
 lower_below few many lits up h k d within = omega (arith, up, h k d within)
 
-pub step_literals_below : (t : VerificationTask) (k top : ℕ) (clause lits : List ℕ) → IsBelow (t.design.vars + 1) (held_literals t)
+pub step_literals_below : (t : VerificationTask) (k top : ℕ) (clause lits : List ℕ)
+    → IsBelow (t.design.vars + 1) (held_literals t)
     → IsBelow (t.design.vars + 1) (negated_next t.design clause) → lits ≡ step_literals t k top clause
     → IsBelow (t.design.vars + 1 + top + 1) lits
 step_literals_below t k top clause lits held later is =
@@ -65,5 +67,6 @@ pub bad_literals_below : (t : VerificationTask) (k top p : ℕ) (lits : List ℕ
 bad_literals_below t k top p lits low is =
     let P : ℕ → Type 0 = λ l. variable l < t.design.vars + 1 + top + 1 in
     let Q : List ℕ → Type 0 = IsBelow (t.design.vars + 1 + top + 1) in
-    subst Q (sym is) (All-append P (switches t.design k top) (bad_literal (circuit t.design) p ∷ []) (switches_below t.design k top)
+    subst Q (sym is)
+        (All-append P (switches t.design k top) (bad_literal (circuit t.design) p ∷ []) (switches_below t.design k top)
     (All-cons P (bad_literal (circuit t.design) p) [] (omega (arith, low)) (All-nil P)))

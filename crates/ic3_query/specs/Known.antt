@@ -39,6 +39,7 @@ IsKept c set known clause = (s x v : List Bool) → IsValuation c s x v → Meet
     → Meets c (next_state c v) clause
 
 -- the clause is inductive with what is known
-pub record IsForGood (c : Circuit) (set : List Bool) (known : List (List ℕ)) (clause : List ℕ) : Type 0 where
+pub record IsForGood (c : Circuit) (set : List Bool) (known : List (List ℕ))
+    (clause : List ℕ) : Type 0 where
   pub starts : HoldsAtStart c clause
   pub steps : IsKept c set known clause

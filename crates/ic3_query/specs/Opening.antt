@@ -15,7 +15,8 @@ IsReset n latch row = bit row (switch_var n 0) ≡ true → HasReset latch row
 
 -- the new clauses say what the old ones say, and the fact of a row
 pub record Says (P : List Bool → Type 0) (old new : List (List ℕ)) : Type 0 where
-  pub forth : (row : List Bool) → AllSatisfiedBy (value row) old → P row → AllSatisfiedBy (value row) new
+  pub forth : (row : List Bool) → AllSatisfiedBy (value row) old → P row
+      → AllSatisfiedBy (value row) new
   pub back : (row : List Bool) → AllSatisfiedBy (value row) new → AllSatisfiedBy (value row) old
   pub gained : (row : List Bool) → AllSatisfiedBy (value row) new → P row
 

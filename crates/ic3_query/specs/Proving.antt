@@ -16,7 +16,8 @@ IsSolved vars clauses under (Some refuted) = Refutes vars clauses under refuted
 IsSolved vars clauses under None = (row : List Bool) × Satisfies vars clauses under row
 
 -- a row meets the clauses of a step, and one step later not the candidate of this number
-pub record IsOpen (t : VerificationTask) (base candidates : List (List ℕ)) (number : ℕ) : Type 0 where
+pub record IsOpen (t : VerificationTask) (base candidates : List (List ℕ))
+    (number : ℕ) : Type 0 where
   pub clause : List ℕ
   pub clause_is : slice_get candidates number ≡ Some clause
   pub row : List Bool

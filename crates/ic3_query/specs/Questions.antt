@@ -37,7 +37,8 @@ pub record IsBefore (t : VerificationTask) (known : List (List ℕ)) (f : Levels
   pub known_met : MeetsClauses (circuit t.design) (latch_row (circuit t.design) values) known
   pub level : IsIn (circuit t.design) f.kept k (latch_row (circuit t.design) values)
   pub outside : Meets (circuit t.design) (latch_row (circuit t.design) values) clause
-  pub later : list_any (latch_value (circuit t.design).latches (next_state (circuit t.design) values)) clause ≡ false
+  pub later : list_any (latch_value (circuit t.design).latches (next_state (circuit t.design) values))
+      clause ≡ false
 
 -- each step from a row of the level that meets the clause leads to one that meets it
 abbrev pub IsKeptAt : VerificationTask → List (List ℕ) → Levels → ℕ → List ℕ → Type 0
@@ -48,14 +49,17 @@ IsKeptAt t known f k clause = (s x v : List Bool) → IsValuation (circuit t.des
     → Meets (circuit t.design) (next_state (circuit t.design) v) clause
 
 -- the values of a step out of the clause, or that there is none
-abbrev pub AnswersFor : VerificationTask → List (List ℕ) → Levels → ℕ → List ℕ → List Bool → Asked → Type 0
+abbrev pub AnswersFor : VerificationTask → List (List ℕ) → Levels → ℕ → List ℕ → List Bool
+    → Asked → Type 0
 AnswersFor t known f k clause values Before = IsBefore t known f k clause values
 AnswersFor t known f k clause values (Blocked core) = IsKeptAt t known f k clause
 
 -- the same where no level counts, but only what is known
-abbrev pub KnownAnswersFor : VerificationTask → List (List ℕ) → Levels → List ℕ → List Bool → Asked → Type 0
+abbrev pub KnownAnswersFor : VerificationTask → List (List ℕ) → Levels → List ℕ → List Bool
+    → Asked → Type 0
 KnownAnswersFor t known f clause values Before = IsBefore t known f (f.top + 1) clause values
-KnownAnswersFor t known f clause values (Blocked core) = IsKept (circuit t.design) t.expected known clause
+KnownAnswersFor t known f clause values (Blocked core) =
+    IsKept (circuit t.design) t.expected known clause
 
 -- a step from a row of the level that breaks the property; nothing is assumed
 pub record IsBadRow (t : VerificationTask) (known : List (List ℕ)) (f : Levels) (k p : ℕ)
@@ -78,6 +82,7 @@ BadFor t known f k p values true = IsBadRow t known f k p values
 BadFor t known f k p values false = IsGoodFrom t known f k p
 
 -- nothing contradicts, so that the row has what was found, or a core is refuted
-abbrev pub IsAnswered : ℕ → List (List ℕ) → List ℕ → Option (List ℕ) → List Bool → Option (List ℕ) → Type 0
+abbrev pub IsAnswered : ℕ → List (List ℕ) → List ℕ → Option (List ℕ) → List Bool
+    → Option (List ℕ) → Type 0
 IsAnswered vars clauses under among row None = IsOpen vars clauses under among row
 IsAnswered vars clauses under among row (Some core) = Closes vars clauses under core

@@ -17,7 +17,8 @@ pub record IsKnownStep (n : Netlist) (known : List (List ℕ)) (row : List Bool)
   pub known_met : MeetsClauses (circuit n) (latch_row (circuit n) row) known
 
 -- a row that meets the solver's clauses is such a step, from a row of each level whose switches are on
-pub record Holds (n : Netlist) (known : List (List ℕ)) (f : Levels) (clauses : List (List ℕ)) : Type 0 where
+pub record Holds (n : Netlist) (known : List (List ℕ)) (f : Levels)
+    (clauses : List (List ℕ)) : Type 0 where
   pub step : (row : List Bool) → AllSatisfiedBy (value row) clauses → IsKnownStep n known row
   pub level : (row : List Bool) → AllSatisfiedBy (value row) clauses → (k : ℕ) → IsOn n f.top k row
       → IsIn (circuit n) f.kept k (latch_row (circuit n) row)
@@ -29,7 +30,8 @@ Fits n known f clauses = (row : List Bool) → IsKnownStep n known row
     → AllSatisfiedBy (value row) clauses
 
 -- the solver has a switch for each level from 0 to the top, and both directions hold
-pub record Serves (n : Netlist) (known : List (List ℕ)) (f : Levels) (count : ℕ) (clauses : List (List ℕ)) : Type 0 where
+pub record Serves (n : Netlist) (known : List (List ℕ)) (f : Levels) (count : ℕ)
+    (clauses : List (List ℕ)) : Type 0 where
   pub width : count ≡ n.vars + 1 + f.top + 1
   pub small : count ≤ 2147483648
   pub holds : Holds n known f clauses

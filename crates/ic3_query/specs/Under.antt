@@ -14,7 +14,8 @@ switches n k top = map (switch n) (range_with_len k (top + 1 - k))
 
 -- a step from the level that breaks no assumption leads out of the clause
 abbrev pub step_literals : VerificationTask → ℕ → ℕ → List ℕ → List ℕ
-step_literals t k top clause = switches t.design k top ++ held_literals t ++ negated_next t.design clause
+step_literals t k top clause =
+    switches t.design k top ++ held_literals t ++ negated_next t.design clause
 
 -- a step from the level breaks the property; nothing else is assumed
 abbrev pub bad_literals : VerificationTask → ℕ → ℕ → ℕ → List ℕ

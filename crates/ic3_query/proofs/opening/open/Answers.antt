@@ -10,6 +10,8 @@ returns g c =
     let width = c.in_ok-add_resets.ensures.count ∙ c.in_ok-fresh.ensures.ok ∙ ap (λ (m : ℕ). m + 1) c.requires.count in
     serves_opened c.args.coded.now.design (all_of c.args.known.now) (g.S.Sat.added c.fresh.new.self)
     (g.S.Sat.added c.add_resets.new.solver) (g.S.Sat.count c.add_resets.new.solver)
-    (own_for (problem c.args.known.now.task) c.args.coded.now (all_of c.args.known.now) c.requires.task c.own-own.ensures.known.own)
+    (own_for (problem c.args.known.now.task) c.args.coded.now
+        (all_of c.args.known.now) c.requires.task c.own-own.ensures.known.own)
     (c.in_ok-fresh.ensures.added ∙ c.requires.added) width
-    (omega (arith, width, c.requires.count, c.in_ok-fresh.ensures.var, c.in_ok-fresh.ensures.small)) c.in_ok-add_resets.ensures.added
+    (omega (arith, width, c.requires.count, c.in_ok-fresh.ensures.var, c.in_ok-fresh.ensures.small))
+        c.in_ok-add_resets.ensures.added

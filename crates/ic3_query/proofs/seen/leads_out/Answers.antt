@@ -23,7 +23,8 @@ returns c =
     let P : Netlist → Type 0 = λ n. MeetsConstraints (circuit n) c.args.vals.now in
     let same = c.design.ensures.value ∙ ap (λ (t : VerificationTask). t.design) c.task.ensures.value in
     OnTrue-map c.meets_known.result
-    (MeetsClauses (circuit c.args.coded.now.design) (latch_row (circuit c.args.coded.now.design) c.args.vals.now) (all_of c.args.known.now))
+    (MeetsClauses (circuit c.args.coded.now.design) (latch_row (circuit c.args.coded.now.design) c.args.vals.now)
+        (all_of c.args.known.now))
     (IsBefore c.args.coded.now (all_of c.args.known.now) c.args.frames.now c.args.level c.args.clause.now c.args.vals.now)
     (λ met. record {
       now = c.requires.step;

@@ -4,4 +4,5 @@ use Rattle.ja_base.specs.Literals.{value}
 use Rattle.ic3_query.proofs.seen.meets_all.Given as goal
 
 abbrev pub invariant-loop-clause : goal.invariant-loop-clause
-invariant-loop-clause l = (k : ℕ) (d : List ℕ) → k < l.clause-index → list_any (value l.vals) (slice_index_or l.clauses k d) ≡ true
+invariant-loop-clause l = (k : ℕ) (d : List ℕ) → k < l.clause-index
+    → list_any (value l.vals) (slice_index_or l.clauses k d) ≡ true
