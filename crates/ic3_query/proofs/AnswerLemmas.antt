@@ -257,7 +257,7 @@ module _ (t : VerificationTask) (known : List (List ℕ)) (f : Levels) (count : 
       let same = front_same (clauses ++ clause ∷ []) (step_literals t k f.top clause) row front width in
       let all = first_part whole clauses (clause ∷ []) front.meets.clauses_hold in
       let parts = all_part P (switches t.design k f.top ++ held_literals t)
-          (negated_next t.design clause) front.meets.under_holds in
+      (negated_next t.design clause) front.meets.under_holds in
       let low = all_part P (switches t.design k f.top) (held_literals t) parts.0 in
       let back : AreSame (t.design.vars + 1) whole row = λ u below. sym (same u below) in
       let now = found_now whole row all width same in
@@ -382,14 +382,14 @@ pub known_refuted : (t : VerificationTask) (known : List (List ℕ)) (f : Levels
     → length t.expected ≡ length t.design.bads → Serves t.design known f count clauses → (k : ℕ) (clause under core : List ℕ)
     (among : Option (List ℕ)) (row : List Bool) (answer : Option (List ℕ)) → is_foreign (circuit t.design) clause ≡ false
     → under ≡ step_literals t k f.top clause → IsAnswered count (clauses ++ clause ∷ []) under among row answer
-        → answer ≡ Some core
+    → answer ≡ Some core
     → k ≡ f.top + 1 → IsKept (circuit t.design) t.expected known clause
 known_refuted t known f count clauses sound expected serves k clause under core among row answer own is h e high =
     let j : ℕ = suc (f.top + total f.kept) in
     let literals = is ∙ same_above t f.top k j clause (omega (arith, high)) (omega arith) in
     λ s x v now meets there constrained held.
     step_refuted t known f count clauses sound expected serves j clause under core among row answer own literals h e s x v now
-        meets
+    meets
     (none_above (circuit t.design) f.kept f.top s) there constrained held
 
 pub known_before : (t : VerificationTask) (known : List (List ℕ)) (f : Levels) (k : ℕ) (clause : List ℕ) (values : List Bool)

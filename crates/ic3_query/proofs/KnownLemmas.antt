@@ -1,5 +1,6 @@
 -- What is known stays inductive where clauses come, and becomes part of the closed list.
 use Rattle.std.proofs.Common.{◌≡◌, ℕ, Bool, true, false, List, [], ◌∷◌, ◌++◌, get_or, refl, sym, subst, arith}
+use Rattle.std.specs.Bool.{OnTrue}
 use Rattle.std.specs.List.{list_any, All}
 use Rattle.std.proofs.lemmas.Bool.{both_ways}
 use Rattle.std.specs.Prelude.{Contains}
@@ -43,7 +44,7 @@ inductive_with c set known clause h good = record {
   starts = λ s initial. All-push (Meets c s) known clause (h.starts s initial) (good.starts s initial);
   steps = λ s x v now meets constrained held.
       let of_known : MeetsClauses c s known = All-part (Meets c s) (known ++ clause ∷ []) known meets
-          (first_is_part known (clause ∷ [])) in
+      (first_is_part known (clause ∷ [])) in
       let of_clause : MeetsClauses c s (clause ∷ []) =
       All-part (Meets c s) (known ++ clause ∷ []) (clause ∷ []) meets (second_is_part known (clause ∷ [])) in
       All-push (Meets c (next_state c v)) known clause (h.steps s x v now of_known constrained held)
@@ -142,5 +143,14 @@ holds_where_starts n sound clause begins s initial =
     by_test true e = refl
     by_test false e =
         absurd (both_ways (starts (circuit n) clause)
-        (starts_false (circuit n) clause (own_vars n sound) (s, initial, λ met. both_ways
-        (list_any (latch_value (circuit n).latches s) clause) e met)) begins)
+        (starts_false (circuit n) clause (own_vars n sound) (
+          s,
+          initial,
+          λ met. both_ways
+              (list_any (latch_value (circuit n).latches s) clause) e met,
+        )) begins)
+
+pub starts_tells : (n : Netlist) → IsSound n → (clause : List ℕ) (b : Bool) → b ≡ starts (circuit n) clause
+    → OnTrue b (HoldsAtStart (circuit n) clause)
+starts_tells n sound clause true e = holds_where_starts n sound clause (sym e)
+starts_tells n sound clause false e = tt

@@ -14,7 +14,7 @@ use Rattle.ic3_query.proofs.KnownLemmas.{known_joined, known_extended, known_imp
 
 module _ (k : KnownList) (task : VerificationTask) (list own : List (List ℕ))
     (view : ◌≡◌ {A = KnownList} (record { task = task; list = list; own = own }) k)
-        (h : IsKnown (problem task) (list ++ own)) where
+    (h : IsKnown (problem task) (list ++ own)) where
   pub join_view : (new : List (List ℕ)) (clause : List ℕ) → is_foreign (circuit k.task.design) clause ≡ false
       → IsForGood (circuit k.task.design) k.task.expected (all_of k) clause → new ≡ own ++ clause ∷ []
       → IsKnown (problem task) (list ++ new)

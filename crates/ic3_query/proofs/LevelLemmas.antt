@@ -12,7 +12,9 @@ use Rattle.inv_cert.proofs.InductionLemmas.{All-part}
 use Rattle.ic3_frames.specs.Levels.{Levels, Entry, IfEntry, added, moved}
 use Rattle.ic3_frames.specs.Soundness.{Gains}
 use Rattle.ic3_frames.proofs.GainLemmas.{additions_gain, moves_gain}
+use Rattle.ic3_frames.proofs.LevelLemmas.{All-added}
 use Rattle.ic3_query.specs.Known.{KnownList, AreOwn, HoldsAtStart, all_of}
+use Rattle.ic3_query.specs.Questions.{AreOwnLevels}
 use Rattle.ic3_query.specs.Serving.{IsMovable, Serves}
 use Rattle.ic3_query.specs.Under.{IsGuarded}
 use Rattle.ic3_query.proofs.KnownLemmas.{all_has_imported, imported_has_all}
@@ -42,7 +44,7 @@ serves_added n known old new level clause guarded count seen_count clauses seen 
 pub serves_moved : (n : Netlist) (known : List (List ℕ)) (old new : Levels) (at level : ℕ) (clause guarded : List ℕ)
     (count seen_count : ℕ) (clauses seen : List (List ℕ)) → Serves n known old count clauses → level ≤ old.top
     → IsMovable n old at level → IfEntry old.kept at (λ e. e.clause ≡ clause) → IsGuarded n level clause guarded
-        → seen_count ≡ count
+    → seen_count ≡ count
     → seen ≡ clauses ++ guarded ∷ [] → IfEntry old.kept at (λ e. new.kept ≡ moved old.kept at e level) → new.top ≡ old.top
     → Serves n known new seen_count seen
 serves_moved n known old new at level clause guarded count seen_count clauses seen h high m there is e g kept top =
@@ -77,7 +79,7 @@ pub serves_joined : (n : Netlist) (before after : Levels) (old new : KnownList) 
     (count seen_count : ℕ)
     (clauses seen : List (List ℕ)) → Serves n (all_of old) before count clauses → is_foreign (circuit n) clause ≡ false
     → seen_count ≡ count → seen ≡ clauses ++ clause ∷ []
-        → new ≡ record { task = old.task; list = old.list; own = old.own ++ clause ∷ [] }
+    → new ≡ record { task = old.task; list = old.list; own = old.own ++ clause ∷ [] }
     → after.kept ≡ added clause level before.kept → after.top ≡ before.top → Serves n (all_of new) after seen_count seen
 serves_joined n before after old new level clause count seen_count clauses seen h own e g is kept top =
     let R : List ℕ → Type 0 = λ c. is_foreign (circuit n) c ≡ false in
@@ -114,10 +116,18 @@ serves_imported n f old new more fresh_more seen_more count seen_count clauses s
     let raw : Serves n (joined old.list (fresh old.list more) ++ old.own) f count (clauses ++ fresh old.list more) =
     serves_known n (all_of old) (fresh old.list more) (joined old.list (fresh old.list more) ++ old.own) own_fresh
     (all_has_imported old.list old.own (fresh old.list more)) (imported_has_all old.list old.own (fresh old.list more)) f count
-        clauses h in
+    clauses h in
     let S : List (List ℕ) → Type 0 = λ known. Serves n known f seen_count seen in
     let known : joined old.list (fresh old.list more) ++ old.own ≡ all_of new =
     ap (λ (m : List (List ℕ)). m ++ old.own) (again ∙ sym list) ∙ ap (λ (m : List (List ℕ)). new.list ++ m) (sym own) in
     subst S known
-        (serves_as n (joined old.list (fresh old.list more) ++ old.own) f count seen_count (clauses ++ fresh old.list more) seen e
+    (serves_as n (joined old.list (fresh old.list more) ++ old.own) f count seen_count (clauses ++ fresh old.list more) seen e
     (g ∙ ap (λ (m : List (List ℕ)). clauses ++ m) (same ∙ is)) raw)
+
+-- an own clause comes to own clauses
+pub levels_added : (n : Netlist) (old new : List Entry) (clause : List ℕ) (level : ℕ) → AreOwnLevels n old
+    → is_foreign (circuit n) clause ≡ false → new ≡ added clause level old → AreOwnLevels n new
+levels_added n old new clause level h own is =
+    let P : Entry → Type 0 = λ e. is_foreign (circuit n) e.clause ≡ false in
+    let Q : List Entry → Type 0 = All P in
+    subst Q (sym is) (All-added clause level P old h own)

@@ -69,7 +69,7 @@ pub Says-more : (n : Netlist) (k : ℕ) (latch : Latch) (a b c : List (List ℕ)
 Says-more n k latch a b c g at h = record {
   forth = λ row all said.
       h.forth row (g.forth row all (λ j other within is. said j other (omega (arith, within)) is))
-          (said k latch (omega arith) at);
+      (said k latch (omega arith) at);
   back = λ row all. g.back row (h.back row all);
   gained = λ row all j other within is. by_place row all j other within is;
 }
@@ -192,7 +192,7 @@ serves_opened n known before after count own is width small says = record {
     met_before row h =
         let P : List (List ℕ) → Type 0 = AllSatisfiedBy (value row) in
         subst P (sym is)
-            (All-append (SatisfiedBy (value row)) (coded_clauses n) known h.coded (met_now (circuit n) row known own h.known_met))
+        (All-append (SatisfiedBy (value row)) (coded_clauses n) known h.coded (met_now (circuit n) row known own h.known_met))
 
     by_level : (row : List Bool) (k : ℕ) → IsIn (circuit n) [] k (latch_row (circuit n) row) → IsExactly n 0 k row
         → bit row (switch_var n 0) ≡ true → (j : ℕ) (latch : Latch) → slice_get n.latches j ≡ Some latch → HasReset latch row

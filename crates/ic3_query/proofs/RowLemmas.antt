@@ -93,7 +93,7 @@ holds_guarded n level clause guarded row is h on =
 pub set_is_below : (n : ℕ) (lits set : List ℕ) → IsSetOf lits set → IsBelow n lits → IsBelow n set
 set_is_below n lits set is below = λ k d within.
     All-contains (λ l. variable l < n) lits (get_or set k d) below
-        ((is.members (get_or set k d)).0 (Contains-get_or set k d within))
+    ((is.members (get_or set k d)).0 (Contains-get_or set k d within))
 
 pub guarded_is_below : (n : Netlist) (level count : ℕ) (clause guarded : List ℕ) → IsGuarded n level clause guarded
     → IsBelow (n.vars + 1) clause → n.vars + 1 + level < count → IsBelow count guarded
@@ -133,11 +133,11 @@ pub same_latches : (n : Netlist) → IsSound n → (row other : List Bool) → A
     → latch_row (circuit n) row ≡ latch_row (circuit n) other
 same_latches n sound row other same = each n.latches (λ k d within.
     new_is_below n.vars (get_or n.latches k d).lit
-        (sound.latches k (get_or n.latches k d) (slice_get-get_or n.latches k d within)).lit)
+    (sound.latches k (get_or n.latches k d) (slice_get-get_or n.latches k d within)).lit)
   where
     each : (ls : List Latch) → All (λ (l : Latch). variable l.lit < n.vars + 1) ls
         → map (λ (l : plain.Latch). bit row l.var) (map latch_of ls) ≡ map (λ (l : plain.Latch). bit other l.var)
-            (map latch_of ls)
+        (map latch_of ls)
     each [] low = refl
     each (l ∷ ls) low =
         ap (λ (b : Bool). b ∷ map (λ (l : plain.Latch). bit row l.var) (map latch_of ls))
@@ -153,7 +153,7 @@ same_nexts n sound row other same = each n.latches (λ k d within.
   where
     each : (ls : List Latch) → All (λ (l : Latch). variable l.next < n.vars + 1) ls
         → map (λ (l : plain.Latch). value row l.next) (map latch_of ls) ≡ map (λ (l : plain.Latch). value other l.next)
-            (map latch_of ls)
+        (map latch_of ls)
     each [] low = refl
     each (l ∷ ls) low =
         ap (λ (b : Bool). b ∷ map (λ (l : plain.Latch). value row l.next) (map latch_of ls))

@@ -63,7 +63,7 @@ module _ (n : Netlist) (known : List (List ℕ)) (old new : Levels) (level : ℕ
   fits_gained h row step zero initial exactly =
       All-push (SatisfiedBy (value row)) clauses guarded (h row step 0 initial (was_exactly 0 row exactly))
       (guarded_holds n level clause guarded row is
-          (λ _. met_in_row (circuit n) row clause own (begins (latch_row (circuit n) row) initial)))
+      (λ _. met_in_row (circuit n) row clause own (begins (latch_row (circuit n) row) initial)))
   fits_gained h row step (suc k) there exactly =
       All-push (SatisfiedBy (value row)) clauses guarded
       (h row step (suc k) (gains.back (suc k) (latch_row (circuit n) row) there) (was_exactly (suc k) row exactly))

@@ -68,5 +68,5 @@ bad_literals_below t k top p lits low is =
     let P : ℕ → Type 0 = λ l. variable l < t.design.vars + 1 + top + 1 in
     let Q : List ℕ → Type 0 = IsBelow (t.design.vars + 1 + top + 1) in
     subst Q (sym is)
-        (All-append P (switches t.design k top) (bad_literal (circuit t.design) p ∷ []) (switches_below t.design k top)
+    (All-append P (switches t.design k top) (bad_literal (circuit t.design) p ∷ []) (switches_below t.design k top)
     (All-cons P (bad_literal (circuit t.design) p) [] (omega (arith, low)) (All-nil P)))

@@ -37,8 +37,8 @@ pub record IsBefore (t : VerificationTask) (known : List (List ℕ)) (f : Levels
   pub known_met : MeetsClauses (circuit t.design) (latch_row (circuit t.design) values) known
   pub level : IsIn (circuit t.design) f.kept k (latch_row (circuit t.design) values)
   pub outside : Meets (circuit t.design) (latch_row (circuit t.design) values) clause
-  pub later : list_any (latch_value (circuit t.design).latches (next_state (circuit t.design) values))
-      clause ≡ false
+  pub later : list_any (latch_value (circuit t.design).latches
+      (next_state (circuit t.design) values)) clause ≡ false
 
 -- each step from a row of the level that meets the clause leads to one that meets it
 abbrev pub IsKeptAt : VerificationTask → List (List ℕ) → Levels → ℕ → List ℕ → Type 0

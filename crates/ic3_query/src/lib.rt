@@ -17,6 +17,8 @@ mod proving;
 mod query;
 mod room;
 mod seen;
+#[cfg(test)]
+mod tests;
 mod under;
 
 pub use asked::Asked;

@@ -12,7 +12,7 @@ check-requires-clause-below c =
     let P : List (List ℕ) → Type 0 = All (IsBelow (c.args.coded.now.design.vars + 1)) in
     subst P (sym c.in_ok-candidates.ensures) (are_below c.args.coded.now.design c.task-task.ensures.sound c.args.candidates.now
     (c.args.coded.now.design.vars + 1) (candidates_are_own c.args.coded.now c.args.candidates.now c.requires.candidates)
-        (omega arith))
+    (omega arith))
 
 pub unreachable-requires : goal.unreachable-requires
 unreachable-requires c =
@@ -21,5 +21,5 @@ unreachable-requires c =
     proofs_are_taken c.args.coded.now c.args.base.now.clauses c.args.candidates.now c.args.proofs c.in-Err-Refused.field-0-0
     c.requires.candidates c.requires.proofs (subst P c.in_ok-candidates.ensures
     (refusal_of c.check.result c.in-Err-Refused.field-0 c.in-Err-Refused.field-0-0
-        (IsFirstRefusal c.args.coded.now c.args.base.now.clauses
+    (IsFirstRefusal c.args.coded.now c.args.base.now.clauses
     c.in_ok-candidates.candidates c.args.proofs) c.check.ensures.refused c.in-Err-Refused.is c.in-Err-Refused.field-0-is))

@@ -16,6 +16,6 @@ unreachable-requires g c =
     open_refutes c.args.coded.now c.args.base.now.clauses c.args.candidates.now c.in-Open.field-0 c.task-task.ensures.sound
     c.task-task.ensures.expected
     (own_for (problem c.args.base.now.task) c.args.coded.now c.args.base.now.clauses c.requires.task
-        c.is_closed.ensures.closed.own)
+    c.is_closed.ensures.closed.own)
     (candidates_are_own c.args.coded.now c.args.candidates.now c.requires.candidates) c.requires.inductive
     (subst P c.in-Open.is c.in_ok-proofs.ensures.answer)

@@ -16,5 +16,5 @@ returns-clause-serves g c =
     serves_extended c.args.coded.now.design c.args.frames.now c.args.known.now c.extend.new.self c.args.more c.as_slice.result.now
     (g.S.Sat.count c.args.solver.now) (g.S.Sat.count c.add_all.new.solver) (g.S.Sat.added c.args.solver.now)
     (g.S.Sat.added c.add_all.new.solver) c.requires.serves c.requires.own c.in_ok-add_all.ensures.count
-        c.in_ok-add_all.ensures.added
+    c.in_ok-add_all.ensures.added
     c.as_slice.ensures.value c.in_ok-extend.ensures.ok

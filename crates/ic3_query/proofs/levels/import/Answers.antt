@@ -16,9 +16,9 @@ add_all-requires g c =
     c.is_closed.ensures.closed.own in
     let is = c.as_slice.ensures.value ∙ c.in_ok-added.ensures.fresh in
     subst P (sym is)
-        (are_below c.args.coded.now.design c.task-task.ensures.sound (fresh c.args.known.now.list c.args.more.now.clauses)
+    (are_below c.args.coded.now.design c.task-task.ensures.sound (fresh c.args.known.now.list c.args.more.now.clauses)
     (g.S.Sat.count c.args.solver.now)
-        (fresh_is_own c.args.coded.now.design c.args.known.now.list c.args.more.now.clauses own_list own_more)
+    (fresh_is_own c.args.coded.now.design c.args.known.now.list c.args.more.now.clauses own_list own_more)
     (omega (arith, c.requires.serves.width)))
 
 pub returns-clause-serves : goal.returns-clause-serves

@@ -10,7 +10,7 @@ pub returns-clause-added : goal.returns-clause-added
 returns-clause-added g c =
     let P : List (List ℕ) → Type 0 =
     Says (λ row. bit row (switch_var c.args.coded.now.design 0) ≡ true → value row c.args.lit ≡ true)
-        (g.S.Sat.added c.args.solver.now) in
+    (g.S.Sat.added c.args.solver.now) in
     let Q : ℕ → Type 0 = λ l. IsSetOf (c.args.lit ∷ l ∷ []) c.in_ok-clause.clause in
     subst P (sym c.in_ok-add.ensures.ok) (says_literal c.args.coded.now.design c.args.lit c.in_ok-clause.clause
     (g.S.Sat.added c.args.solver.now) (subst Q c.off.ensures c.in_ok-clause.ensures.set))

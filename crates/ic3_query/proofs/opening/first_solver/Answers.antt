@@ -9,7 +9,7 @@ pub add_all-requires-2 : goal.add_all-requires-2
 add_all-requires-2 g c =
     let P : List (List ℕ) → Type 0 = All (IsBelow (g.S.Sat.count c.add_closed.new.solver)) in
     let count = c.in_ok-add_closed.ensures.count ∙ c.in_ok-add_all.ensures.count ∙ c.in_ok-solver.ensures.count
-        ∙ c.vars.ensures.value in
+    ∙ c.vars.ensures.value in
     subst P (sym (c.as_slice-2.ensures.value ∙ c.own.ensures.value))
     (are_below c.args.coded.now.design c.task-task.ensures.sound c.args.known.now.own (g.S.Sat.count c.add_closed.new.solver)
     (own_is_own (problem c.args.known.now.task) c.args.coded.now c.args.known.now.list c.args.known.now.own c.requires

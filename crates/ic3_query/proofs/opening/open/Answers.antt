@@ -11,7 +11,7 @@ returns g c =
     serves_opened c.args.coded.now.design (all_of c.args.known.now) (g.S.Sat.added c.fresh.new.self)
     (g.S.Sat.added c.add_resets.new.solver) (g.S.Sat.count c.add_resets.new.solver)
     (own_for (problem c.args.known.now.task) c.args.coded.now
-        (all_of c.args.known.now) c.requires.task c.own-own.ensures.known.own)
+    (all_of c.args.known.now) c.requires.task c.own-own.ensures.known.own)
     (c.in_ok-fresh.ensures.added ∙ c.requires.added) width
     (omega (arith, width, c.requires.count, c.in_ok-fresh.ensures.var, c.in_ok-fresh.ensures.small))
-        c.in_ok-add_resets.ensures.added
+    c.in_ok-add_resets.ensures.added

@@ -13,11 +13,11 @@ loop-number-preserved g c =
       added = c.in_ok-proof.ensures.added ∙ c.loop-number.invariant.added;
       proved = subst P (sym c.in_ok-push-in-Some.ensures.ok) (AreProved-more c.args.coded.now c.args.base.now.clauses
           c.args.candidates.now c.loop-number.proofs c.loop-number.number c.get.result.now c.in-Some.proof
-              c.loop-number.invariant.proved
+          c.loop-number.invariant.proved
           c.get.ensures
-              (proof_found c.args.coded.now c.args.base.now.clauses c.args.candidates.now (g.S.Sat.added c.loop-number.solver)
+          (proof_found c.args.coded.now c.args.base.now.clauses c.args.candidates.now (g.S.Sat.added c.loop-number.solver)
           c.get.result.now c.in_ok-proof.field-0 c.in-Some.proof c.loop-number.invariant.added c.in_ok-proof.ensures.answer
-              c.in-Some.is));
+          c.in-Some.is));
       refused = c.in_ok-proof.ensures.charged ∙ c.loop-number.invariant.refused;
       later = later_then c.args.meter.now c.loop-number.meter c.prove.new.meter c.loop-number.invariant.later
           c.in_ok-proof.ensures.later;

@@ -11,5 +11,5 @@ add_all-requires-2 g c =
     ∙ c.in_ok-solver.ensures.count ∙ c.vars.ensures.value in
     subst P (sym c.as_slice-2.ensures.value)
     (are_below c.args.coded.now.design c.vars.ensures.sound c.args.candidates.now
-        (g.S.Sat.count c.add_closed.new.solver) c.requires.own
+    (g.S.Sat.count c.add_closed.new.solver) c.requires.own
     (omega (arith, count)))

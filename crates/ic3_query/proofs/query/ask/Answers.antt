@@ -22,7 +22,7 @@ returns-in-Some-clause-answer g c =
     ∙ ap (λ (m : ℕ). step_literals c.args.coded.now c.args.level m c.args.clause.now) c.top.ensures in
     step_refuted c.args.coded.now (all_of c.args.known.now) c.args.frames.now (g.S.Sat.count c.args.solver.now)
     (g.S.Sat.added c.args.solver.now) c.task-task.ensures.sound c.task-task.ensures.expected c.requires.serves c.args.level
-        c.args.clause.now
+    c.args.clause.now
     c.as_slice.result.now c.in-Some.core (Some c.vars.result.now) c.question.new.row c.in_ok-core.field-0 c.requires.own under
     c.in_ok-core.ensures.answer c.in-Some.is
 
@@ -32,7 +32,7 @@ returns-in-Some-clause-known g c = λ high.
     ∙ ap (λ (m : ℕ). step_literals c.args.coded.now c.args.level m c.args.clause.now) c.top.ensures in
     known_refuted c.args.coded.now (all_of c.args.known.now) c.args.frames.now (g.S.Sat.count c.args.solver.now)
     (g.S.Sat.added c.args.solver.now) c.task-task.ensures.sound c.task-task.ensures.expected c.requires.serves c.args.level
-        c.args.clause.now
+    c.args.clause.now
     c.as_slice.result.now c.in-Some.core (Some c.vars.result.now) c.question.new.row c.in_ok-core.field-0 c.requires.own under
     c.in_ok-core.ensures.answer c.in-Some.is high
 

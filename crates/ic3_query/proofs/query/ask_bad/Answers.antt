@@ -10,7 +10,7 @@ returns-in-Some-clause-answer g c =
     ∙ ap (λ (m : ℕ). bad_literals c.args.coded.now c.args.level m c.args.prop) c.top.ensures in
     bad_refuted c.args.coded.now (all_of c.args.known.now) c.args.frames.now (g.S.Sat.count c.args.solver.now)
     (g.S.Sat.added c.args.solver.now) c.task-task.ensures.sound c.task-task.ensures.expected c.requires.serves c.args.level
-        c.args.prop
+    c.args.prop
     c.as_slice.result.now c.in-Some._core (Some c.vars.result.now) c.question.new.row c.in_ok-_core.field-0 c.requires.within
-        under
+    under
     c.in_ok-_core.ensures.answer c.in-Some.is

@@ -8,7 +8,7 @@ pub returns-in-Some-clause-answer : goal.returns-in-Some-clause-answer
 returns-in-Some-clause-answer g c =
     bad_refuted c.args.coded.now (all_of c.args.known.now) c.args.frames.now (g.S.Sat.count c.args.solver.now)
     (g.S.Sat.added c.args.solver.now) c.task-task.ensures.sound c.task-task.ensures.expected c.requires.serves c.args.level
-        c.args.prop
+    c.args.prop
     c.args.under.now c.in-Some._core None c.question.new.row c.in_ok-_core.field-0 c.requires.within c.requires.under
     c.in_ok-_core.ensures.answer c.in-Some.is
 
@@ -16,7 +16,7 @@ pub returns-clause-answer : goal.returns-clause-answer
 returns-clause-answer g c =
     let P : List Bool → Type 0 = IsBadRow c.args.coded.now (all_of c.args.known.now) c.args.frames.now c.args.level c.args.prop in
     subst P (sym c.swap.ensures.y_after)
-        (bad_found c.args.coded.now (all_of c.args.known.now) c.args.frames.now (g.S.Sat.count c.args.solver.now)
+    (bad_found c.args.coded.now (all_of c.args.known.now) c.args.frames.now (g.S.Sat.count c.args.solver.now)
     (g.S.Sat.added c.args.solver.now) c.task-task.ensures.sound c.task-task.ensures.expected c.requires.serves
     c.args.level c.args.prop c.args.under.now c.question.new.row c.in_ok-_core.field-0 c.requires.within c.requires.under
     c.in_ok-_core.ensures.answer c.in_default.is (c.in_ok-_core.ensures.width ∙ c.requires.room.wide))

@@ -17,26 +17,26 @@ pub returns-in-Some-clause-answer : goal.returns-in-Some-clause-answer
 returns-in-Some-clause-answer g c =
     step_refuted c.args.coded.now (all_of c.args.known.now) c.args.frames.now (g.S.Sat.count c.args.solver.now)
     (g.S.Sat.added c.args.solver.now) c.task-task.ensures.sound c.task-task.ensures.expected c.requires.serves c.args.level
-        c.args.clause.now
+    c.args.clause.now
     c.args.under.now c.in-Some.core None c.question.new.row c.in_ok-core.core c.requires.own c.requires.under
-        c.in_ok-core.ensures.answer
+    c.in_ok-core.ensures.answer
     c.in-Some.is
 
 pub returns-in-Some-clause-known : goal.returns-in-Some-clause-known
 returns-in-Some-clause-known g c = λ high.
     known_refuted c.args.coded.now (all_of c.args.known.now) c.args.frames.now (g.S.Sat.count c.args.solver.now)
     (g.S.Sat.added c.args.solver.now) c.task-task.ensures.sound c.task-task.ensures.expected c.requires.serves c.args.level
-        c.args.clause.now
+    c.args.clause.now
     c.args.under.now c.in-Some.core None c.question.new.row c.in_ok-core.core c.requires.own c.requires.under
-        c.in_ok-core.ensures.answer
+    c.in_ok-core.ensures.answer
     c.in-Some.is high
 
 pub returns-in-None-clause-answer : goal.returns-in-None-clause-answer
 returns-in-None-clause-answer g c =
     let P : List Bool
-        → Type 0 = IsBefore c.args.coded.now (all_of c.args.known.now) c.args.frames.now c.args.level c.args.clause.now in
+    → Type 0 = IsBefore c.args.coded.now (all_of c.args.known.now) c.args.frames.now c.args.level c.args.clause.now in
     subst P (sym c.swap.ensures.y_after)
-        (step_found c.args.coded.now (all_of c.args.known.now) c.args.frames.now (g.S.Sat.count c.args.solver.now)
+    (step_found c.args.coded.now (all_of c.args.known.now) c.args.frames.now (g.S.Sat.count c.args.solver.now)
     (g.S.Sat.added c.args.solver.now) c.task-task.ensures.sound c.task-task.ensures.expected c.requires.serves
     c.args.level c.args.clause.now c.args.under.now c.question.new.row c.in_ok-core.core c.requires.own c.requires.under
     c.in_ok-core.ensures.answer c.in-None.is (c.in_ok-core.ensures.width ∙ c.requires.room.wide))

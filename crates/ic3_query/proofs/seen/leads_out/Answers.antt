@@ -24,7 +24,7 @@ returns c =
     let same = c.design.ensures.value ∙ ap (λ (t : VerificationTask). t.design) c.task.ensures.value in
     OnTrue-map c.meets_known.result
     (MeetsClauses (circuit c.args.coded.now.design) (latch_row (circuit c.args.coded.now.design) c.args.vals.now)
-        (all_of c.args.known.now))
+    (all_of c.args.known.now))
     (IsBefore c.args.coded.now (all_of c.args.known.now) c.args.frames.now c.args.level c.args.clause.now c.args.vals.now)
     (λ met. record {
       now = c.requires.step;

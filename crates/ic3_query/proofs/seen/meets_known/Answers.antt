@@ -33,7 +33,7 @@ returns c =
     let Q : List (List ℕ) → Type 0 = AllSatisfiedBy (value c.args.vals.now) in
     OnTrue-map c.meets_all.result (Q c.as_slice.result.now)
     (MeetsClauses (circuit c.args.coded.now.design) (latch_row (circuit c.args.coded.now.design) c.args.vals.now)
-        (all_of c.args.known.now))
+    (all_of c.args.known.now))
     (λ h. known_met (problem c.args.known.now.task) c.args.coded.now c.args.known.now.list c.args.known.now.own c.args.vals.now
     c.requires.task c.list.ensures.known (subst P c.list.ensures.value c.if-not-meets_closed.ensures)
     (subst Q c.own.ensures.value (subst Q c.as_slice.ensures.value h))) c.meets_all.ensures

@@ -5,7 +5,7 @@ use Rattle.ic3_query.proofs.seen.meets_level.Goals as goal
 pub holds_at-requires-clause-below : goal.holds_at-requires-clause-below
 holds_at-requires-clause-below c =
     levels_below c.args.coded.now.design c.task-task.ensures.sound c.args.frames.now.kept
-        (length c.args.vals.now) c.requires.levels
+    (length c.args.vals.now) c.requires.levels
     c.requires.width
 
 pub returns : goal.returns

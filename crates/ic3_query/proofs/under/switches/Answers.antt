@@ -13,5 +13,5 @@ loop-at-preserved c = record {
 pub returns : goal.returns
 returns c =
     switches_all c.args.coded.now.design c.args.level c.args.top c.loop-at.at c.loop-at.lits c.loop-at.invariant.to
-        c.loop-at-test.false
+    c.loop-at-test.false
     c.loop-at.invariant.lits
