@@ -1,0 +1,12 @@
+pub mod RowLemmas
+pub mod ServeLemmas
+pub mod OpenLemmas
+pub mod KnownLemmas
+pub mod KnownViews
+pub mod AnswerLemmas
+pub mod FitLemmas
+pub mod ProvingLemmas
+pub mod SeenLemmas
+pub mod UnderLemmas
+pub mod LevelLemmas
+pub mod MeterLemmas

@@ -1,0 +1,16 @@
+use Rattle.std.proofs.Common.{ℕ, List, sym, subst, ◌∙◌, arith}
+use Rattle.std.specs.List.{All}
+use Rattle.ja_base.specs.Clauses.{IsBelow}
+use Rattle.aig_model.specs.Task.{problem}
+use Rattle.ic3_query.proofs.SeenLemmas.{are_below, own_is_own}
+use Rattle.ic3_query.proofs.opening.first_solver.Goals as goal
+
+pub add_all-requires-2 : goal.add_all-requires-2
+add_all-requires-2 g c =
+    let P : List (List ℕ) → Type 0 = All (IsBelow (g.S.Sat.count c.add_closed.new.solver)) in
+    let count = c.in_ok-add_closed.ensures.count ∙ c.in_ok-add_all.ensures.count ∙ c.in_ok-solver.ensures.count
+    ∙ c.vars.ensures.value in
+    subst P (sym (c.as_slice-2.ensures.value ∙ c.own.ensures.value))
+    (are_below c.args.coded.now.design c.task-task.ensures.sound c.args.known.now.own (g.S.Sat.count c.add_closed.new.solver)
+    (own_is_own (problem c.args.known.now.task) c.args.coded.now c.args.known.now.list c.args.known.now.own c.requires
+    c.list.ensures.known) (omega (arith, count)))

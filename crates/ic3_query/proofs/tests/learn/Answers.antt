@@ -1,0 +1,7 @@
+use Rattle.ic3_query.proofs.LevelLemmas.{levels_added}
+use Rattle.ic3_query.proofs.tests.learn.Goals as goal
+
+pub returns-clause-levels : goal.returns-clause-levels
+returns-clause-levels g c =
+    levels_added c.args.coded.now.design c.args.frames.now.kept c.join.new.frames.kept c.args.clause c.args.frames.now.top
+    c.requires.levels c.requires.own c.in_ok-join.ensures.kept

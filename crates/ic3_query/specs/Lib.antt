@@ -1,0 +1,9 @@
+pub mod Endings
+pub mod Proving
+pub mod Known
+pub mod Switches
+pub mod Serving
+pub mod Under
+pub mod Opening
+pub mod Questions
+pub mod Laws

@@ -1,0 +1,35 @@
+//! Questions of IC3: a solver that serves the levels, what is known for good, and what the search asks of both. When a solver
+//! serves the levels stands in `specs/Serving`, what is known in `specs/Known`, what a question answers in `specs/Questions`.
+#![tactic(auto)]
+
+mod asked;
+mod closing;
+mod cones;
+mod guard;
+mod halt;
+mod known;
+mod laws;
+mod levels;
+mod loading;
+mod opening;
+mod proved;
+mod proving;
+mod query;
+mod room;
+mod seen;
+#[cfg(test)]
+mod tests;
+mod under;
+
+pub use asked::Asked;
+pub use closing::close;
+pub use cones::Cones;
+pub use halt::Halt;
+pub use known::Known;
+pub use laws::fits_frames;
+pub use levels::{extend, import, join, keep, push};
+pub use opening::{first_solver, grow, open};
+pub use proved::Proved;
+pub use proving::prove_all;
+pub use query::{ask, ask_bad, ask_known};
+pub use room::Room;
