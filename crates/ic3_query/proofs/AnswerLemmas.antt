@@ -1,31 +1,27 @@
 -- What a refuted question says of each step, and what a row that meets it is.
-use Rattle.std.proofs.Common.{◌≡◌, ℕ, suc, zero, ◌+◌, ◌-◌, ◌≤◌, ◌<◌, Bool, true, false, not, List, [], ◌∷◌, ◌++◌, length, map, get_or, take, nat_le, refl, sym, ap, subst, ◌∙◌, arith}
+use Rattle.std.proofs.Common.{◌≡◌, ℕ, suc, zero, ◌+◌, ◌-◌, ◌≤◌, ◌<◌, Bool, true, false, List, [], ◌∷◌, ◌++◌, length, map, get_or, nat_le, refl, sym, ap, subst, ◌∙◌, arith}
 use Rattle.std.specs.List.{list_any, range_with_len, All}
 use Rattle.std.specs.Prelude.{Option, Some, None}
 use Rattle.std.proofs.lemmas.Bool.Decides.{nat_tests}
 use Rattle.std.proofs.lemmas.List.{length-append, get_or_append_left, get_or-append-add}
 use Rattle.std.proofs.lemmas.Option.{slice_get-get_or}
-use Rattle.std.proofs.lemmas.List.Elements.{All-append, All-push, All-nil, All-cons, All-map, All-from_recursion}
+use Rattle.std.proofs.lemmas.List.Elements.{All-append, All-push, All-map, All-from_recursion}
 use Rattle.std.proofs.lemmas.List.FromFn.{length-map-range_with_len, get_or-map-range_with_len, length-range_with_len, get_or-range_with_len}
-use Rattle.ja_base.specs.Literals.{bit, variable, negated, value, SatisfiedBy, AllSatisfiedBy}
-use Rattle.ja_base.specs.Clauses.{IsBelow, is_part}
+use Rattle.ja_base.specs.Literals.{bit, variable, value, SatisfiedBy, AllSatisfiedBy}
 use Rattle.ja_base.specs.Circuit as plain
 use Rattle.ja_base.specs.Circuit.{bad_literal}
-use Rattle.ja_base.specs.Valuation.{IsValuation, latch_row, input_row, next_state, IsBad, IsGood, MeetsConstraints, AssumptionsHold}
+use Rattle.ja_base.specs.Valuation.{IsValuation, latch_row, next_state, MeetsConstraints}
 use Rattle.ja_base.specs.Invariants.{latch_value, MeetsClauses}
 use Rattle.ja_base.proofs.JoinLemmas.{first_is_part, second_is_part}
-use Rattle.aig_model.specs.declared.netlist.Latch.{Latch}
-use Rattle.aig_model.specs.Netlist.{Netlist, IsSound, circuit, latch_of}
+use Rattle.aig_model.specs.Netlist.{Netlist, IsSound, circuit}
 use Rattle.aig_model.specs.Task.{VerificationTask}
-use Rattle.refute_check.specs.Refuted.{IsRefuted, Satisfies}
 use Rattle.sat_plain.specs.Probed.{Closes, IsFront}
 use Rattle.ja_project.specs.CodedClauses.{coded_clauses, held_literals, negated_next}
 use Rattle.ja_project.specs.Meaning.{IsLegalStep}
 use Rattle.ja_project.specs.Latches.{is_foreign}
 use Rattle.ja_project.proofs.BelowLemmas.{clauses_are_below, lit_is_below}
 use Rattle.ja_project.proofs.HeldLemmas.{held_means_assumptions, held_is_below}
-use Rattle.ja_project.proofs.StepLemmas.{clauses_mean_steps, variable_of}
-use Rattle.ja_project.proofs.ForeignLemmas.{own_is_below}
+use Rattle.ja_project.proofs.StepLemmas.{clauses_mean_steps}
 use Rattle.ja_project.proofs.ValueLemmas.{obliged, later_false}
 use Rattle.aig_eval.specs.Rows.{IsClear}
 use Rattle.inv_cert.proofs.InductionLemmas.{All-part}
@@ -33,11 +29,11 @@ use Rattle.ic3_frames.specs.Levels.{Entry, Levels}
 use Rattle.ic3_frames.specs.Soundness.{Meets, IsIn}
 use Rattle.ic3_query.specs.Known.{IsKept}
 use Rattle.ic3_query.specs.Questions.{IsStep, IsBefore, IsKeptAt, IsBadRow, IsGoodFrom, IsRoom, IsAnswered}
-use Rattle.ic3_query.specs.Serving.{IsKnownStep, Serves}
+use Rattle.ic3_query.specs.Serving.{Serves}
 use Rattle.ic3_query.specs.Switches.{switch_var, switch, IsOn, IsExactly}
 use Rattle.ic3_query.specs.Under.{switches, step_literals, bad_literals}
 use Rattle.ic3_query.proofs.RowLemmas.{AreSame, value_positive, value_same, all_same, lits_same, same_latches, same_nexts, all_of_part, met_in_row, met_by_latches}
-use Rattle.ic3_query.proofs.ServeLemmas.{first_part, second_part, last_part}
+use Rattle.ic3_query.proofs.ServeLemmas.{first_part, last_part}
 
 -- ---- the switches of a question
 

@@ -1,15 +1,14 @@
 -- Where each known clause is blocked at the top, the levels alone say what the solver says.
-use Rattle.std.proofs.Common.{◌≡◌, ℕ, suc, zero, ◌≤◌, ◌&&◌, nat_le, Bool, true, List, [], ◌∷◌, get_or, refl, sym, ◌∙◌, ⊎_elim, arith}
-use Rattle.std.specs.List.{list_any, All}
+use Rattle.std.proofs.Common.{◌≡◌, ℕ, suc, zero, ◌≤◌, nat_le, Bool, true, List, [], ◌∷◌, get_or, ⊎_elim, arith}
 use Rattle.std.proofs.lemmas.Bool.{and_parts, or_cases}
 use Rattle.std.proofs.lemmas.Bool.Decides.{nat_tests}
 use Rattle.std.proofs.lemmas.List.Elements.{All-head, All-tail}
 use Rattle.ja_base.specs.Circuit.{Circuit}
 use Rattle.ja_base.specs.Clauses.{is_part}
-use Rattle.ja_base.specs.Invariants.{latch_value, MeetsClauses, IsInductive}
+use Rattle.ja_base.specs.Invariants.{latch_value, MeetsClauses}
 use Rattle.ja_base.specs.Valuation.{latch_row}
 use Rattle.aig_model.specs.Netlist.{circuit}
-use Rattle.ic3_frames.specs.Levels.{Entry, Levels, is_blocked, is_blocked_by}
+use Rattle.ic3_frames.specs.Levels.{Entry, is_blocked, is_blocked_by}
 use Rattle.ic3_frames.specs.Soundness.{Meets, MeetsAt, IsIn}
 use Rattle.ic3_frames.proofs.GainLemmas.{meets_more}
 use Rattle.ic3_query.specs.Laws.{FramesFit}

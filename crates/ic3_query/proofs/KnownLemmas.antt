@@ -6,7 +6,6 @@ use Rattle.std.proofs.lemmas.Bool.{both_ways}
 use Rattle.std.specs.Prelude.{Contains}
 use Rattle.std.proofs.lemmas.List.{append-nil, append_assoc}
 use Rattle.std.proofs.lemmas.List.Elements.{All-append, All-push, All-nil, All-cons, All-contains, Contains-get_or, Contains-append_left, Contains-append_right}
-use Rattle.ja_base.specs.Literals.{SatisfiedBy}
 use Rattle.ja_base.specs.Circuit.{Circuit, Problem}
 use Rattle.ja_base.specs.ClauseSets.{joined}
 use Rattle.ja_base.specs.Valuation.{next_state}

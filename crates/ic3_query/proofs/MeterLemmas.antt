@@ -1,5 +1,5 @@
 -- Meter and flag over several calls.
-use Rattle.std.proofs.Common.{◌≡◌, ℕ, ◌+◌, ◌*◌, ◌≤◌, Bool, ◌∙◌, arith}
+use Rattle.std.proofs.Common.{◌≡◌, ℕ, ◌+◌, ◌*◌, Bool, ◌∙◌, arith}
 use Rattle.ja_base.specs.declared.meter.Meter.{Meter}
 use Rattle.ja_outside.specs.Flags.{IsPolled}
 use Rattle.sat_plain.specs.Ticks.{IsLater, TicksAtMost}

@@ -1,17 +1,15 @@
 -- Resets as bits of a row, and a solver that is told of them under the switch of level 0.
-use Rattle.std.proofs.Common.{◌≡◌, ℕ, suc, zero, ◌+◌, ◌≤◌, ◌<◌, ◌||◌, Bool, true, false, not, Option, Some, None, List, [], ◌∷◌, ◌++◌, length, map, get_or, slice_get, nat_le, nat_lt, refl, sym, ap, subst, ◌∙◌, arith}
-use Rattle.std.specs.List.{list_any, All}
+use Rattle.std.proofs.Common.{◌≡◌, ℕ, suc, zero, ◌+◌, ◌≤◌, ◌<◌, ◌||◌, Bool, true, false, not, Some, None, List, [], ◌∷◌, ◌++◌, length, get_or, slice_get, nat_le, nat_lt, refl, sym, ap, subst, ◌∙◌, arith}
 use Rattle.std.proofs.lemmas.Bool.{not-true}
 use Rattle.std.proofs.lemmas.Bool.Decides.{nat_tests}
 use Rattle.std.proofs.lemmas.List.{length-map}
 use Rattle.std.proofs.lemmas.List.Elements.{All-append, All-push, All-nil}
 use Rattle.std.proofs.lemmas.Option.{get_or_from_slice_get, slice_get_within}
-use Rattle.ja_base.specs.Literals.{bit, variable, negated, value, SatisfiedBy, AllSatisfiedBy}
+use Rattle.ja_base.specs.Literals.{bit, negated, value, SatisfiedBy, AllSatisfiedBy}
 use Rattle.ja_base.specs.Circuit as plain
 use Rattle.ja_base.specs.Runs.{IsInitial}
 use Rattle.ja_base.specs.Valuation.{latch_row}
 use Rattle.ja_base.proofs.LiteralLemmas.{value_negated}
-use Rattle.aig_model.specs.declared.netlist.Reset.{Reset}
 use Rattle.aig_model.specs.declared.netlist.Reset.TheVariants.{Zero, One, Free}
 use Rattle.aig_model.specs.declared.netlist.Latch.{Latch}
 use Rattle.aig_model.specs.Netlist.{Netlist, IsNew, circuit, latch_of, reset_bit}
@@ -19,8 +17,8 @@ use Rattle.aig_model.proofs.Places.{get_map, map_cases}
 use Rattle.ja_project.specs.CodedClauses.{coded_clauses}
 use Rattle.ja_project.proofs.GateLemmas.{value_even}
 use Rattle.ja_project.proofs.ValueLemmas.{met_now, met_back}
-use Rattle.ic3_frames.specs.Levels.{Levels, Entry}
-use Rattle.ic3_frames.specs.Soundness.{Meets, MeetsAt, IsIn}
+use Rattle.ic3_frames.specs.Levels.{Entry}
+use Rattle.ic3_frames.specs.Soundness.{Meets, IsIn}
 use Rattle.ic3_query.specs.Known.{AreOwn}
 use Rattle.ic3_query.specs.Opening.{HasReset, IsReset, AreReset, Says}
 use Rattle.ic3_query.specs.Serving.{IsKnownStep, Serves}

@@ -1,17 +1,15 @@
 -- Rows of a solver that has more variables than the design, and clauses under a switch.
-use Rattle.std.proofs.Common.{◌≡◌, ℕ, ◌+◌, ◌-◌, ◌<◌, ◌≤◌, ◌||◌, Bool, true, false, not, List, [], ◌∷◌, ◌++◌, length, get_or, map, nat_le, eqb, refl, sym, ap, subst, ◌∙◌, ⊎_elim, arith}
-use Rattle.std.specs.List.{list_any, range_with_len, All}
-use Rattle.std.specs.Prelude.{Contains}
-use Rattle.std.proofs.lemmas.Bool.{or_cases, or_left, or_right, and_parts, eqb-true}
+use Rattle.std.proofs.Common.{◌≡◌, ℕ, ◌+◌, ◌<◌, ◌||◌, Bool, true, false, not, List, [], ◌∷◌, ◌++◌, get_or, map, eqb, refl, sym, ap, subst, ◌∙◌, ⊎_elim, arith}
+use Rattle.std.specs.List.{list_any, All}
+use Rattle.std.proofs.lemmas.Bool.{or_cases, and_parts, eqb-true}
 use Rattle.std.proofs.lemmas.Bool.Decides.{nat_tests}
 use Rattle.std.proofs.lemmas.Option.{slice_get-get_or}
 use Rattle.std.proofs.lemmas.List.Elements.{All-head, All-tail, All-cons, All-nil, All-append, All-contains, Contains-get_or}
 use Rattle.std.proofs.lemmas.List.Folds.{list_any-append}
-use Rattle.ja_base.specs.Literals.{bit, variable, is_negated, literal_of, value, with_sign, SatisfiedBy, AllSatisfiedBy}
+use Rattle.ja_base.specs.Literals.{bit, variable, is_negated, literal_of, value, with_sign, AllSatisfiedBy}
 use Rattle.ja_base.specs.Clauses.{IsSetOf, IsBelow, has_literal, is_part}
 use Rattle.ja_base.specs.Circuit as plain
 use Rattle.ja_base.specs.Valuation.{latch_row, next_state}
-use Rattle.ja_base.specs.Invariants.{latch_value, MeetsClauses}
 use Rattle.aig_model.specs.declared.netlist.Latch.{Latch}
 use Rattle.aig_model.specs.Netlist.{Netlist, IsSound, circuit, latch_of}
 use Rattle.ja_project.proofs.BelowLemmas.{lit_is_below, new_is_below}
@@ -21,7 +19,7 @@ use Rattle.ja_project.proofs.ForeignLemmas.{all_over}
 use Rattle.ja_project.proofs.StepLemmas.{variable_of}
 use Rattle.ja_project.proofs.ValueLemmas.{same_any}
 use Rattle.ic3_frames.specs.Soundness.{Meets}
-use Rattle.ic3_query.specs.Switches.{switch_var, switch, off}
+use Rattle.ic3_query.specs.Switches.{switch_var, off}
 use Rattle.ic3_query.specs.Under.{IsGuarded}
 
 -- ---- literals of switches

@@ -1,7 +1,7 @@
 -- What is known and the levels, in the values of a step.
-use Rattle.std.proofs.Common.{◌≡◌, ℕ, ◌+◌, ◌≤◌, ◌<◌, Bool, true, false, Some, List, [], ◌∷◌, ◌++◌, length, take, get_or, slice_get, refl, sym, ap, subst, ◌∙◌, arith}
+use Rattle.std.proofs.Common.{◌≡◌, ℕ, ◌+◌, ◌≤◌, ◌<◌, Bool, true, false, Some, List, [], ◌∷◌, ◌++◌, length, take, get_or, slice_get, sym, ap, subst, ◌∙◌, arith}
 use Rattle.std.specs.Bool.{OnTrue}
-use Rattle.std.specs.List.{list_any, All}
+use Rattle.std.specs.List.{All}
 use Rattle.std.proofs.lemmas.Option.{get_or_from_slice_get, slice_get-get_or, slice_get_within}
 use Rattle.std.proofs.lemmas.List.{take_more, append_assoc}
 use Rattle.std.proofs.lemmas.List.Elements.{All-append}
@@ -14,12 +14,12 @@ use Rattle.ja_base.proofs.JoinLemmas.{first_is_part, second_is_part}
 use Rattle.aig_model.specs.Netlist.{Netlist, IsSound, circuit}
 use Rattle.aig_model.specs.Task.{VerificationTask, problem}
 use Rattle.ja_project.specs.Latches.{is_foreign}
-use Rattle.ja_project.proofs.ForeignLemmas.{own_is_below, own_fit}
+use Rattle.ja_project.proofs.ForeignLemmas.{own_is_below}
 use Rattle.ja_project.proofs.ValueLemmas.{met_back}
 use Rattle.inv_cert.specs.Proofs.{IsCandidate}
 use Rattle.inv_cert.proofs.InductionLemmas.{All-part}
 use Rattle.ic3_frames.specs.Levels.{Entry, IfEntry}
-use Rattle.ic3_frames.specs.Soundness.{MeetsAt, Meets}
+use Rattle.ic3_frames.specs.Soundness.{MeetsAt}
 use Rattle.ic3_query.specs.Known.{AreOwn, IsKnown}
 use Rattle.ic3_query.specs.Questions.{AreOwnLevels}
 use Rattle.ic3_query.proofs.RowLemmas.{met_by_latches}

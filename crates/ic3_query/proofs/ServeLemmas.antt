@@ -1,10 +1,10 @@
 -- A solver goes on to serve the levels where both change together.
-use Rattle.std.proofs.Common.{◌≡◌, ℕ, suc, zero, ◌+◌, ◌≤◌, ◌<◌, Bool, true, false, List, [], ◌∷◌, ◌++◌, length, get_or, nat_le, refl, sym, ap, subst, ◌∙◌, arith}
+use Rattle.std.proofs.Common.{◌≡◌, ℕ, suc, zero, ◌+◌, ◌≤◌, ◌<◌, Bool, true, false, List, [], ◌∷◌, ◌++◌, nat_le, sym, subst, ◌∙◌, arith}
 use Rattle.std.specs.List.{list_any, All}
 use Rattle.std.specs.Prelude.{Contains}
 use Rattle.std.proofs.lemmas.Bool.Decides.{nat_tests}
-use Rattle.std.proofs.lemmas.List.Elements.{All-append, All-push, All-nil}
-use Rattle.ja_base.specs.Literals.{bit, value, SatisfiedBy, AllSatisfiedBy}
+use Rattle.std.proofs.lemmas.List.Elements.{All-append, All-push}
+use Rattle.ja_base.specs.Literals.{value, SatisfiedBy, AllSatisfiedBy}
 use Rattle.ja_base.specs.Valuation.{latch_row}
 use Rattle.ja_base.specs.Invariants.{latch_value, MeetsClauses}
 use Rattle.ja_base.proofs.JoinLemmas.{first_is_part, second_is_part}
@@ -12,10 +12,10 @@ use Rattle.aig_model.specs.Netlist.{Netlist, circuit}
 use Rattle.ja_project.specs.Latches.{is_foreign}
 use Rattle.ja_project.proofs.ValueLemmas.{met_now, met_back}
 use Rattle.inv_cert.proofs.InductionLemmas.{All-part}
-use Rattle.ic3_frames.specs.Levels.{Levels, Entry}
-use Rattle.ic3_frames.specs.Soundness.{Meets, MeetsAt, IsIn, Gains}
+use Rattle.ic3_frames.specs.Levels.{Levels}
+use Rattle.ic3_frames.specs.Soundness.{Meets, IsIn, Gains}
 use Rattle.ic3_query.specs.Known.{AreOwn, HoldsAtStart}
-use Rattle.ic3_query.specs.Switches.{switch_var, IsOn, IsExactly}
+use Rattle.ic3_query.specs.Switches.{IsOn, IsExactly}
 use Rattle.ic3_query.specs.Serving.{IsKnownStep, Holds, Fits, Serves}
 use Rattle.ic3_query.specs.Under.{IsGuarded}
 use Rattle.ic3_query.proofs.RowLemmas.{met_in_row, met_by_latches, guarded_holds, holds_guarded}

@@ -13,7 +13,7 @@ use Rattle.ic3_frames.specs.Levels.{Levels, Entry}
 use Rattle.ic3_frames.specs.Soundness.{Meets, IsIn}
 use Rattle.ic3_query.specs.declared.asked.Asked.{Asked}
 use Rattle.ic3_query.specs.declared.asked.Asked.TheVariants.{Before, Blocked}
-use Rattle.ic3_query.specs.Known.{AreOwn, IsKept}
+use Rattle.ic3_query.specs.Known.{IsKept}
 
 -- the row of a solver and the values of a step have a bit for each variable of the design
 pub record IsRoom (n : Netlist) (row values : List Bool) : Type 0 where

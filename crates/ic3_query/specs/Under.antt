@@ -1,5 +1,5 @@
 -- What a question assumes: switches, the assumptions of the task, and what is to hold one step later.
-use Rattle.std.specs.Prelude.{◌≡◌, ℕ, ◌+◌, ◌-◌, List, [], ◌∷◌, ◌++◌, map}
+use Rattle.std.specs.Prelude.{ℕ, ◌+◌, ◌-◌, List, [], ◌∷◌, ◌++◌, map}
 use Rattle.std.specs.List.{range_with_len}
 use Rattle.ja_base.specs.Clauses.{IsSetOf}
 use Rattle.ja_base.specs.Circuit.{bad_literal}

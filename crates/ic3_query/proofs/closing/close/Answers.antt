@@ -1,9 +1,5 @@
-use Rattle.std.proofs.Common.{◌++◌, arith, subst}
-use Rattle.std.proofs.lemmas.List.Elements.{All-append}
-use Rattle.ja_project.specs.Latches.{is_foreign}
-use Rattle.aig_model.specs.Netlist.{circuit}
+use Rattle.std.proofs.Common.{subst}
 use Rattle.aig_model.specs.Task.{problem}
-use Rattle.inv_cert.proofs.TakenLemmas.{open_is_not_inductive}
 use Rattle.ic3_query.specs.Proving.{IsProved}
 use Rattle.ic3_query.specs.declared.proved.Proved.{Proved}
 use Rattle.ic3_query.proofs.ProvingLemmas.{open_refutes}

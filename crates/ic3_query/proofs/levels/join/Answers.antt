@@ -1,4 +1,4 @@
-use Rattle.std.proofs.Common.{ℕ, List, [], ◌∷◌, ◌++◌, sym, ap, subst, ◌∙◌, arith}
+use Rattle.std.proofs.Common.{arith}
 use Rattle.ja_project.proofs.ForeignLemmas.{own_is_below}
 use Rattle.ic3_query.proofs.LevelLemmas.{serves_joined}
 use Rattle.ic3_query.proofs.levels.join.Goals as goal

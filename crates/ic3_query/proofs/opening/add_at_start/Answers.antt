@@ -1,4 +1,4 @@
-use Rattle.std.proofs.Common.{◌≡◌, ℕ, true, List, Bool, [], ◌∷◌, ◌++◌, sym, subst}
+use Rattle.std.proofs.Common.{◌≡◌, ℕ, true, List, [], ◌∷◌, sym, subst}
 use Rattle.ja_base.specs.Literals.{bit, value}
 use Rattle.ja_base.specs.Clauses.{IsSetOf}
 use Rattle.ic3_query.specs.Opening.{Says}

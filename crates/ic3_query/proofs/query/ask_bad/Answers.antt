@@ -1,4 +1,4 @@
-use Rattle.std.proofs.Common.{Some, ℕ, ◌∙◌, ap, sym, subst, arith}
+use Rattle.std.proofs.Common.{Some, ℕ, ◌∙◌, ap}
 use Rattle.ic3_query.specs.Known.{all_of}
 use Rattle.ic3_query.specs.Under.{bad_literals}
 use Rattle.ic3_query.proofs.AnswerLemmas.{bad_refuted}

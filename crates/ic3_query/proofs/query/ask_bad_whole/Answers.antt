@@ -1,4 +1,4 @@
-use Rattle.std.proofs.Common.{Some, None, ℕ, List, Bool, ◌∙◌, ap, sym, subst, arith}
+use Rattle.std.proofs.Common.{None, List, Bool, ◌∙◌, sym, subst}
 use Rattle.ic3_query.specs.Known.{all_of}
 use Rattle.ic3_query.specs.Questions.{IsBadRow}
 use Rattle.ic3_query.proofs.AnswerLemmas.{bad_refuted, bad_found, room_swapped}

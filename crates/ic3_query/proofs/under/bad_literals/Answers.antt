@@ -1,8 +1,6 @@
 use Rattle.std.proofs.Common.{ℕ, List, [], ◌∷◌, ◌+◌, ◌<◌, ◌++◌, sym, ap, subst, ◌∙◌}
 use Rattle.std.proofs.lemmas.Option.{get_or_from_slice_get}
 use Rattle.ja_base.specs.Literals.{variable}
-use Rattle.ja_base.specs.Circuit.{bad_literal}
-use Rattle.aig_model.specs.Netlist.{circuit}
 use Rattle.ic3_query.specs.Under.{switches}
 use Rattle.ic3_query.proofs.UnderLemmas.{bad_literals_below}
 use Rattle.ic3_query.proofs.under.bad_literals.Goals as goal

@@ -1,4 +1,4 @@
-use Rattle.std.proofs.Common.{ℕ, List, ◌+◌, ◌++◌, sym, ap, subst, ◌∙◌}
+use Rattle.std.proofs.Common.{ℕ, List, ◌+◌, ◌++◌, ap, subst, ◌∙◌}
 use Rattle.ja_base.specs.Clauses.{IsBelow}
 use Rattle.ja_project.specs.CodedClauses.{held_literals}
 use Rattle.ic3_query.specs.Under.{switches}
