@@ -1,0 +1,4 @@
+pub mod FileLemmas
+pub mod PointLemmas
+pub mod LowerLemmas
+pub mod ConcludeLemmas

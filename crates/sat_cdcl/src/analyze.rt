@@ -4,7 +4,7 @@
 ghost use Rattle.std.specs.Prelude.{◌≡◌, ◌+◌, ◌*◌, ◌<◌, ◌≤◌, [], Some, None, length, slice_get, IfOk, IfSome, OnOk, ℕ};
 ghost use Rattle.refute_check.specs.Lines.{refusal};
 ghost use Rattle.sat_plain.specs.Trails.{lits_of};
-ghost use Rattle.sat_plain.specs.Derive.{IsDerived};
+ghost use Rattle.sat_plain.specs.Derive.{IsDerived, IsWalked};
 ghost use Rattle.sat_watch.specs.Steps.{IsConflict};
 ghost use Rattle.sat_cdcl.specs.Files.{list_of, places_of};
 ghost use Rattle.sat_cdcl.specs.Walks.{IsMet, GoesOn, IsPointedAt, IsLowering, IsLearntAt, IsDecided, AreUnmarked, HasReason, IsPoint};
@@ -59,7 +59,7 @@ pub(crate) fn begin(alloc: Global, db: &Database, conflict: u32) -> Result<Deriv
 {
     let clause = db.clause(conflict);
     let number = db.number(conflict);
-    let derivation = Derivation::begin(alloc, db.trail().vars(), number, clause)?;
+    let derivation = Derivation::begin(alloc, db.vars(), number, clause)?;
     Ok(derivation)
 }
 
@@ -78,10 +78,11 @@ pub(crate) fn resolve(
     ensures lits { derivation.new.lits ≡ derivation.old.lits }
     ensures width { length derivation.new.marks ≡ length derivation.old.marks }
 {
-    let lit = db.trail().place(at).lit;
+    let lit = db.place(at).lit;
     let clause = db.clause(slot);
     let number = db.number(slot);
-    derivation.resolve(lit, number, clause)
+    derivation.resolve(lit, number, clause)?;
+    Ok(())
 }
 
 /// What is found first below a place, down the trail.
@@ -148,7 +149,7 @@ fn point_at(
     ensures point { IfOk result (IsPointedAt db.now.watched.trail.vars (list_of db.now)
         (places_of db.now) at derivation.new) }
 {
-    let place = *db.trail().place(at);
+    let place = db.place(at);
     if derivation.skips(place.lit) {
         return Ok(None);
     }
@@ -188,6 +189,7 @@ fn first_point(
     requires empty { derivation.old.lits ≡ [] }
     requires order { db.now.watched.trail.vars ≤ order.old }
     ensures order { order.new ≡ order.old }
+    ensures walked { IsWalked db.now.watched.trail.vars (lits_of (places_of db.now)) }
     ensures point { IfOk result (IsPointedAt db.now.watched.trail.vars (list_of db.now)
         (places_of db.now) 0 derivation.new) }
 {
@@ -218,7 +220,7 @@ impl Walk {
         requires width { length self.now.derivation.marks ≡ 2 * db.now.watched.trail.vars }
         ensures { IfSome result (HasReason (places_of db.now) at) }
     {
-        let place = db.trail().place(at);
+        let place = db.place(at);
         match place.reason {
             None => None,
             Some(slot) => {
@@ -247,7 +249,7 @@ impl Walk {
             → IsLowering db.now.watched.trail.vars (list_of db.now) (places_of db.now) l (at + 1) self.old
             → IsLowering db.now.watched.trail.vars (list_of db.now) (places_of db.now) l at self.new) }
     {
-        let place = *db.trail().place(at);
+        let place = db.place(at);
         if self.derivation.skips(place.lit) {
             if place.reason.is_none() && !self.closed {
                 self.back = at;
@@ -279,6 +281,7 @@ fn lowered(
 ) -> Result<Learnt, Memory>
     requires point { IsPoint db.now.watched.trail.vars (list_of db.now)
         (places_of db.now) derivation point }
+    requires walked { IsWalked db.now.watched.trail.vars (lits_of (places_of db.now)) }
     requires order { db.now.watched.trail.vars ≤ order.old }
     ensures order { order.new ≡ order.old }
     ensures accepted { IfOk result (λ learnt. refusal db.now.watched.trail.vars

@@ -27,7 +27,7 @@ fn step(derivation: &mut Derivation, db: &Database, at: u32) -> Result<(), Memor
         → AreNegatedIn under derivation.old.lits → AreNegatedIn under derivation.new.lits) }
     ensures width { length derivation.new.marks ≡ length derivation.old.marks }
 {
-    let place = *db.trail().place(at);
+    let place = db.place(at);
     if derivation.skips(place.lit) {
         return Ok(());
     }
@@ -100,10 +100,10 @@ pub(crate) fn refute_place(
         → slice_get (lits_of (places_of db.now)) at ≡ Some l → Contains under (negated l)
         → DecidesUnder under (places_of db.now) at → AreNegatedIn under line.clause) }
 {
-    let lit = db.trail().place(at).lit;
+    let lit = db.place(at).lit;
     let clause = db.clause(slot);
     let number = db.number(slot);
-    let mut derivation = Derivation::begin(alloc, db.trail().vars(), number, clause)?;
+    let mut derivation = Derivation::begin(alloc, db.vars(), number, clause)?;
     derivation.keep(lit.not())?;
     let line = conclude(alloc, db, derivation, at)?;
     Ok(line)

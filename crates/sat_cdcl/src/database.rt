@@ -10,7 +10,7 @@ ghost use Rattle.sat_watch.specs.Steps.{IsForcedOn, IsStep};
 ghost use Rattle.sat_cdcl.specs.Files.{list_of, places_of, IsNumbered, IsRooted};
 
 use ja_base::{Clause, Lit, Memory, Var};
-use sat_plain::Trail;
+use sat_plain::{Place, Trail};
 use sat_watch::{Step, Tag, Watch};
 use std::alloc::Global;
 use std::marker::Model;
@@ -82,6 +82,22 @@ impl Database {
         ensures below { All (IsBelow self.now.watched.trail.vars) (list_of self.now) }
     {
         self.watch.trail()
+    }
+
+    pub(crate) fn vars(&self) -> u32
+        ensures { result ≡ self.now.watched.trail.vars }
+    {
+        self.watch.trail().vars()
+    }
+
+    /// The place of the trail with this number. Its reason is a slot.
+    pub(crate) fn place(&self, at: u32) -> Place
+        requires { at < length (places_of self.now) }
+        ensures value { slice_get (places_of self.now) at ≡ Some result }
+        ensures is { IsAssigned self.now.watched.trail }
+        ensures held { IsHeld self.now.watched }
+    {
+        *self.watch.trail().place(at)
     }
 
     /// The clause of this slot.
@@ -156,8 +172,10 @@ impl Database {
         requires { to ≤ length (places_of self.old) }
         ensures vars { self.new.watched.trail.vars ≡ self.old.watched.trail.vars }
         ensures places { places_of self.new ≡ take to (places_of self.old) }
+        ensures is { IsAssigned self.new.watched.trail }
         ensures store { self.new.watched.store ≡ self.old.watched.store }
         ensures slots { self.new.slots ≡ self.old.slots }
+        ensures list { list_of self.new ≡ list_of self.old }
     {
         self.watch.undo(to);
     }
@@ -171,6 +189,8 @@ impl Database {
             ++ record { lit = lit; reason = None } ∷ []) (places_of self.new) }
         ensures store { self.new.watched.store ≡ self.old.watched.store }
         ensures slots { self.new.slots ≡ self.old.slots }
+        ensures is { IsAssigned self.new.watched.trail }
+        ensures list { list_of self.new ≡ list_of self.old }
         ensures step { IsStep self.new.watched result }
     {
         self.watch.assign(lit)
@@ -188,6 +208,8 @@ impl Database {
             ++ record { lit = lit; reason = Some slot } ∷ []) (places_of self.new) }
         ensures store { self.new.watched.store ≡ self.old.watched.store }
         ensures slots { self.new.slots ≡ self.old.slots }
+        ensures is { IsAssigned self.new.watched.trail }
+        ensures list { list_of self.new ≡ list_of self.old }
         ensures step { IsStep self.new.watched result }
     {
         self.watch.force(lit, slot)
@@ -199,6 +221,8 @@ impl Database {
         ensures places { IsForcedOn (places_of self.old) (places_of self.new) }
         ensures store { self.new.watched.store ≡ self.old.watched.store }
         ensures slots { self.new.slots ≡ self.old.slots }
+        ensures is { IsAssigned self.new.watched.trail }
+        ensures list { list_of self.new ≡ list_of self.old }
         ensures step { IsStep self.new.watched result }
     {
         self.watch.propagate()

@@ -13,7 +13,7 @@ use sat_plain::Trail;
 use std::alloc::Global;
 use std::marker::Model;
 
-/// Activities fade after so many conflicts.
+/// Activities fade once in so many conflicts.
 const FADES_EVERY: u32 = 16;
 
 /// Variables by their activity, the sign of each when it last had a value, and how many conflicts came since activities faded.
@@ -82,11 +82,12 @@ impl Order {
     pub(crate) fn fade(&mut self)
         ensures { self.new ≡ self.old }
     {
-        self.conflicts += 1;
-        if self.conflicts >= FADES_EVERY {
-            self.heap.halve();
-            self.conflicts = 0;
+        if self.conflicts < FADES_EVERY {
+            self.conflicts += 1;
+            return;
         }
+        self.heap.halve();
+        self.conflicts = 1;
     }
 
     /// The variable of this literal, which is true, is about to lose its value.
@@ -128,6 +129,21 @@ impl Order {
         None
     }
 
+    /// A variable without a value, if there is one.
+    fn pick(&mut self, trail: &Trail) -> Option<Var>
+        requires { trail.now.vars ≤ self.old }
+        ensures same { self.new ≡ self.old }
+        ensures some { IfSome result (λ var. (var < trail.now.vars) × (var < 2 ^ 31)
+            × (bit trail.now.values (2 * var) ≡ false)
+            × (bit trail.now.values (2 * var + 1) ≡ false)) }
+        ensures full { IfNone result (IsFull trail.now.vars trail.now.values) }
+    {
+        match self.take(trail) {
+            Some(var) => Some(var),
+            None => trail.unset(),
+        }
+    }
+
     /// A literal of a variable without a value, if there is one.
     pub(crate) fn next(&mut self, trail: &Trail) -> Option<Lit>
         requires { trail.now.vars ≤ self.old }
@@ -136,12 +152,7 @@ impl Order {
         ensures unset { IfSome result (λ lit. value_of trail.now.values lit ≡ None) }
         ensures full { IfNone result (IsFull trail.now.vars trail.now.values) }
     {
-        match self.take(trail) {
-            Some(var) => Some(Lit::new(var, self.negs[var.number() as usize])),
-            None => match trail.unset() {
-                Some(var) => Some(Lit::new(var, self.negs[var.number() as usize])),
-                None => None,
-            },
-        }
+        let var = self.pick(trail)?;
+        Some(Lit::new(var, self.negs[var.number() as usize]))
     }
 }

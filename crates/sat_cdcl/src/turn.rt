@@ -1,6 +1,6 @@
 //! One turn of a search.
 
-ghost use Rattle.std.specs.Prelude.{◌≡◌, ℕ, List, length, IfOk, ◌∷◌, [], ◌<◌, OnOk, ◌≤◌};
+ghost use Rattle.std.specs.Prelude.{◌≡◌, ℕ, List, length, IfOk, ◌∷◌, [], ◌<◌, OnOk, ◌≤◌, ◌+◌};
 ghost use Rattle.ja_base.specs.Clauses.{IsBelow};
 ghost use Rattle.ja_base.specs.Literals.{negated};
 ghost use Rattle.ja_outside.specs.Flags.{IsPolled, IsFoundRaised};
@@ -8,7 +8,7 @@ ghost use Rattle.sat_plain.specs.Ticks.{TicksAtMost, IsLater};
 ghost use Rattle.sat_watch.specs.Steps.{IsStep};
 ghost use Rattle.sat_cdcl.specs.Files.{places_of, IsKept};
 ghost use Rattle.sat_cdcl.specs.Walks.{HasReason};
-ghost use Rattle.sat_cdcl.specs.Turns.{IsUnderWay, IsRefuting, IsFalsified, IsTurned, IsTurnTicked, OnTurnStopped, IsRefuting};
+ghost use Rattle.sat_cdcl.specs.Turns.{IsUnderWay, IsRefuting, IsFalsified, IsTurned, IsTurnTicked, OnTurnStopped};
 
 use crate::advance::{Move, advance};
 use crate::backtrack::{Reaction, react};
@@ -88,7 +88,7 @@ fn falsified<F: Flag>(
         (IsFoundRaised F.may_rise F.raised flag.old flag.new) }
     ensures flag { IsPolled F.may_rise F.raised flag.old flag.new }
 {
-    let place = *db.trail().place(at);
+    let place = db.place(at);
     match place.reason {
         None => match both_signs(alloc, place.lit) {
             Ok(core) => Outcome::Refutes(core),

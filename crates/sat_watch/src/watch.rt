@@ -4,7 +4,7 @@ ghost use Rattle.std.specs.Prelude.{◌≡◌, ◌+◌, ◌<◌, ◌≤◌, ◌^
 ghost use Rattle.ja_base.specs.Clauses.{IsBelow};
 ghost use Rattle.ja_base.specs.Literals.{bit, variable, negated};
 ghost use Rattle.ja_base.specs.Trails.{IsForcedBy};
-ghost use Rattle.sat_plain.specs.Trails.{lits_of};
+ghost use Rattle.sat_plain.specs.Trails.{lits_of, IsAssigned};
 ghost use Rattle.sat_watch.specs.Stores.{IsHeld, IsIdle, IsPut, value_of};
 ghost use Rattle.sat_watch.specs.Steps.{IsForcedOn, IsStep};
 
@@ -145,6 +145,7 @@ impl Watch {
         requires { to ≤ length self.old.trail.places }
         ensures vars { self.new.trail.vars ≡ self.old.trail.vars }
         ensures places { self.new.trail.places ≡ take to self.old.trail.places }
+        ensures is { IsAssigned self.new.trail }
         ensures store { self.new.store ≡ self.old.store }
     {
         self.trail.undo(to);
@@ -158,6 +159,7 @@ impl Watch {
         ensures places { IsForcedOn (self.old.trail.places
             ++ record { lit = lit; reason = None } ∷ []) self.new.trail.places }
         ensures store { self.new.store ≡ self.old.store }
+        ensures is { IsAssigned self.new.trail }
         ensures step { IsStep self.new result }
     {
         self.trail.push(lit, None);
@@ -175,6 +177,7 @@ impl Watch {
         ensures places { IsForcedOn (self.old.trail.places
             ++ record { lit = lit; reason = Some at } ∷ []) self.new.trail.places }
         ensures store { self.new.store ≡ self.old.store }
+        ensures is { IsAssigned self.new.trail }
         ensures step { IsStep self.new result }
     {
         self.trail.push(lit, Some(at));
@@ -186,6 +189,7 @@ impl Watch {
         ensures vars { self.new.trail.vars ≡ self.old.trail.vars }
         ensures places { IsForcedOn self.old.trail.places self.new.trail.places }
         ensures store { self.new.store ≡ self.old.store }
+        ensures is { IsAssigned self.new.trail }
         ensures step { IsStep self.new result }
     {
         propagate(&mut self.trail, &self.store)
