@@ -10,6 +10,7 @@ use Rattle.std.proofs.lemmas.Option.{get_or_from_slice_get, slice_get-get_or, sl
 use Rattle.ja_base.specs.Literals.{bit}
 use Rattle.refute_check.specs.Checked.{clauses_at}
 use Rattle.sat_plain.specs.declared.place.Place.{Place}
+use Rattle.sat_plain.specs.Trails.{Assigned}
 use Rattle.sat_plain.proofs.Members.{taken_at}
 use Rattle.sat_plain.proofs.PlaceLemmas.{slice_get_left, slice_get_push, slice_get_take}
 use Rattle.sat_plain.proofs.WalkLemmas.{taken_has}
@@ -298,4 +299,19 @@ kept_chain a b c h k = record {
   slots = k.slots ∙ ap (λ v. v ++ k.more_slots) h.slots ∙ append_assoc a.slots h.more_slots k.more_slots;
   more = h.more ++ k.more;
   list = k.list ∙ ap (λ v. v ++ k.more) h.list ∙ append_assoc (list_of a) h.more k.more;
+}
+
+pub kept_same : (a b : Filed) → b ≡ a → IsKept a b
+kept_same a b e =
+    let P : Filed → Type 0 = IsKept a in subst P (sym e) (kept_none a a refl refl refl refl)
+
+pub kept_put : (a b : Filed) (slot : ℕ) (clause : List ℕ) → b.watched.trail ≡ a.watched.trail → b.slots ≡ a.slots ++ slot ∷ []
+    → list_of b ≡ list_of a ++ clause ∷ [] → IsKept a b
+kept_put a b slot clause trail slots list = record {
+  vars = ap (λ (t : Assigned). t.vars) trail;
+  root = λ n _ _. ap (λ (t : Assigned). take n t.places) trail;
+  more_slots = slot ∷ [];
+  slots = slots;
+  more = clause ∷ [];
+  list = list;
 }

@@ -2,3 +2,4 @@ pub mod FileLemmas
 pub mod PointLemmas
 pub mod LowerLemmas
 pub mod ConcludeLemmas
+pub mod SearchLemmas

@@ -105,7 +105,8 @@ impl Order {
     /// The variables of all places but the first ones, so many, are about to lose their values.
     pub(crate) fn release_all(&mut self, trail: &Trail, to: u32)
         requires { trail.now.vars ≤ self.old }
-        ensures { self.new ≡ self.old }
+        ensures same { self.new ≡ self.old }
+        ensures is { IsAssigned trail.now }
     {
         for at in to..trail.len() {
             self.release(trail.place(at).lit);
