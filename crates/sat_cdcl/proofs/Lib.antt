@@ -3,3 +3,4 @@ pub mod PointLemmas
 pub mod LowerLemmas
 pub mod ConcludeLemmas
 pub mod SearchLemmas
+pub mod RowLemmas

@@ -2,10 +2,10 @@
 use Rattle.std.proofs.Common.{◌≡◌, ◌≢◌, ℕ, ◌+◌, ◌<◌, ◌≤◌, ◌-◌, ◌⊎◌, Bool, true, false, List, [], ◌∷◌, ◌++◌, length, get_or, map, take, drop, Option, Some, None, is_none, unwrap_or, cond, slice_get, inl, inr, refl, sym, subst, ◌∙◌, ap, arith, append_assoc, append-nil}
 use Rattle.std.specs.List.{All, Contains, list_any, list_all}
 use Rattle.std.proofs.Math.Seq.{take-length}
-use Rattle.std.proofs.lemmas.Bool.{or_left, both_ways, cases_lt, false_from_ne_true}
+use Rattle.std.proofs.lemmas.Bool.{or_left, or_right, both_ways, cases_lt, false_from_ne_true}
 use Rattle.std.proofs.lemmas.Bool.Decides.{Decides-by_and}
 use Rattle.std.proofs.lemmas.List.{length-take, length-append, length-map, length_push, take-append-le, take-take, take_at, get_or-map, get_or-take, get_or_append_left, get_or-append_right}
-use Rattle.std.proofs.lemmas.List.Elements.{All-nil, All-take, Contains-get_or, Contains-append_left}
+use Rattle.std.proofs.lemmas.List.Elements.{All-nil, All-cons, All-take, Contains-get_or, Contains-append_left}
 use Rattle.std.proofs.lemmas.List.Recursion.{or_at}
 use Rattle.std.proofs.lemmas.Option.{get_or_from_slice_get, slice_get_within, slice_get-get_or, same_Some, none-some}
 use Rattle.ja_base.specs.Literals.{bit, variable, negated}
@@ -21,15 +21,21 @@ use Rattle.sat_plain.specs.Trails.{IsGrown, lits_of, kinds_of}
 use Rattle.sat_plain.specs.Rank.{rank}
 use Rattle.sat_plain.specs.Turns.{IsLog, IsCore, IsFurther}
 use Rattle.sat_plain.proofs.Members.{taken_is_on}
-use Rattle.sat_plain.proofs.PlaceLemmas.{lits_take, lits_length, slice_get_push, slice_get_take}
+use Rattle.sat_plain.proofs.PlaceLemmas.{lits_at, lits_take, lits_length, slice_get_push, slice_get_take}
 use Rattle.sat_plain.proofs.RankLemmas.{rank_grown, further_by_flip, further_by_places}
 use Rattle.sat_plain.proofs.TurnLemmas.{log_push}
-use Rattle.sat_watch.specs.Steps.{IsForcedOn}
+use Rattle.sat_plain.proofs.FinishLemmas.{one_sign}
+use Rattle.sat_plain.proofs.StartLemmas.{contradiction_of}
+use Rattle.refute_check.specs.declared.lines.Refuted.{Refuted}
+use Rattle.sat_watch.specs.declared.step.Step.{Step}
+use Rattle.sat_watch.specs.Steps.{IsForcedOn, IsStep}
+use Rattle.sat_cdcl.specs.declared.query.Query.{Query}
+use Rattle.sat_cdcl.proofs.FileLemmas.{last_is}
 use Rattle.sat_watch.specs.Stores.{value_of}
 use Rattle.sat_cdcl.specs.Files.{Filed, IsKept, list_of, places_of, AreForcedAll}
 use Rattle.sat_cdcl.specs.Walks.{IsDecided, IsAsserting}
 use Rattle.sat_cdcl.specs.Assumptions.{DecidesUnder, IsFreeFrom, IsAssuming, AreNegatedIn, IsRetreated}
-use Rattle.sat_cdcl.specs.Turns.{IsLogged}
+use Rattle.sat_cdcl.specs.Turns.{IsUnderWay, IsLogged, IsOnward, IsRefuting}
 use Rattle.sat_cdcl.proofs.PointLemmas.{apart_at, into_taken}
 
 -- ---- a core
@@ -338,3 +344,83 @@ logged_one a b lines lines' line accepted e f = record {
       subst P (sym e) (subst Q (sym f) (log_push a.watched.trail.vars given (list_of a) lines line accepted h));
   few = omega (arith, ap length e, length_push lines line);
 }
+
+-- ---- parts of a turn
+
+-- a literal was decided
+pub kept_on : (a b : Filed) (x : Place) → b.watched.trail.vars ≡ a.watched.trail.vars
+    → IsForcedOn (places_of a ++ x ∷ []) (places_of b) → b.slots ≡ a.slots → list_of b ≡ list_of a → IsKept a b
+kept_on a b x vars h slots list = record {
+  vars = vars;
+  root = root_grown (places_of a) (places_of b) (grown_of (places_of a) (places_of b) x h);
+  more_slots = [];
+  slots = slots ∙ sym (append-nil a.slots);
+  more = [];
+  list = list ∙ sym (append-nil (list_of a));
+}
+
+pub onward_of : (under : List ℕ) (a b : Filed) (q q' : Query) (x : Place) (step : Step)
+    → b.watched.trail.vars ≡ a.watched.trail.vars → IsForcedOn (places_of a ++ x ∷ []) (places_of b)
+    → IsTrail b.watched.trail.vars b.watched.trail.values (lits_of (places_of b)) → list_of b ≡ list_of a
+    → q'.lines ≡ q.lines → IsStep b.watched step → IsUnderWay under b q' → IsOnward under a q b q' step
+onward_of under a b q q' x step vars h is list lines step_is under_way =
+    let P : ℕ → Type 0 = λ n. IsTrail n b.watched.trail.values (lits_of (places_of b)) in
+    record {
+      further = further_on a.watched.trail.vars b.watched.trail.values (places_of a) (places_of b) x (subst P vars is) h;
+      step_is = step_is;
+      under_way = under_way;
+      logged = logged_none a b q.lines q'.lines lines list;
+    }
+
+-- a line came whose clause has negations of assumed literals alone
+pub refuting_of : (under : List ℕ) (a b : Filed) (q q' : Query) (line : Line) (core : List ℕ)
+    → refusal a.watched.trail.vars (list_of a) line.clause line.hints ≡ None → core ≡ map negated line.clause
+    → list_of b ≡ list_of a ++ line.clause ∷ [] → q'.lines ≡ q.lines ++ line ∷ [] → AreNegatedIn under line.clause
+    → IsRefuting under a q b q' core
+refuting_of under a b q q' line core accepted is list lines kept = record {
+  core_is = core_of under (list_of b) (length (list_of a)) line.clause core is
+      (ap (λ v. slice_get v (length (list_of a))) list ∙ last_is (list_of a) line.clause) kept;
+  logged = logged_one a b q.lines q'.lines line accepted lines list;
+}
+
+-- all literals of `under` are true where others were decided
+pub free_holds : (under : List ℕ) (places : List Place) (f : ℕ) → IsFreeFrom under places (Some f)
+    → All (Contains (lits_of places)) under
+free_holds under places f h = λ k d less. taken_is_on (lits_of places) f (get_or under k d) (h.2 k d less)
+
+-- a literal of `under` is false: then none but such literals were decided
+pub only_assumed : (under : List ℕ) (values : List Bool) (vars : ℕ) (places : List Place) (l : ℕ) (free : Option ℕ)
+    → IsTrail vars values (lits_of places) → Contains under l → Contains (lits_of places) (negated l)
+    → IsFreeFrom under places free → DecidesUnder under places (length places)
+only_assumed under values vars places l None is has wrong h = h
+only_assumed under values vars places l (Some f) is has wrong h =
+    let P : ℕ → Type 0 = Contains (lits_of places) in
+    let right : Contains (lits_of places) l =
+    subst P has.2 (free_holds under places f h has.0 l has.1) in
+    absurd (one_sign (lits_of places) l is.apart right wrong)
+
+-- both signs of a literal are assumed
+pub both_of : (under : List ℕ) (a : Filed) (q : Query) (l : ℕ) (core : List ℕ) → core ≡ l ∷ negated l ∷ []
+    → Contains under l → Contains under (negated l) → IsRefuting under a q a q core
+both_of under a q l core is first second = record {
+  core_is = record {
+    part = let P : List ℕ → Type 0 = All (Contains under) in
+        subst P (sym is) (All-cons (Contains under) l (negated l ∷ []) first
+        (All-cons (Contains under) (negated l) [] second (All-nil (Contains under))));
+    covered =
+        let refuted : Refuted = record { core = core; lines = [] } in
+        let both = contradiction_of under l refuted is refl first second in
+        or_right (list_any (is_false_under core) (list_of a)) (has_both_signs core) both.both;
+  };
+  logged = logged_none a a q.lines q.lines refl refl;
+}
+
+-- the place of a literal
+pub place_at : (places : List Place) (p l : ℕ) → slice_get (lits_of places) p ≡ Some l
+    → (place : Place) × (slice_get places p ≡ Some place) × (place.lit ≡ l)
+place_at places p l e =
+    let d : Place = record { lit = 0; reason = None } in
+    let less : p < length places =
+    let w = slice_get_within (lits_of places) p l e in omega (arith, w, lits_length places) in
+    let there : slice_get places p ≡ Some (get_or places p d) = slice_get-get_or places p d less in
+    (get_or places p d, there, same_Some (get_or places p d).lit l (sym (lits_at places p (get_or places p d) there) ∙ e))

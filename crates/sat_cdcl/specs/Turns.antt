@@ -63,7 +63,7 @@ IsAdvanced under before query after query' (moved.Decided step) = IsOnward under
 IsAdvanced under before query after query' moved.Full =
     (after ≡ before) × IsFull before.watched.trail.vars before.watched.trail.values × All (Contains (lits_of (places_of before))) under
 IsAdvanced under before query after query' (moved.Falsified p) =
-    (after ≡ before) × (query'.lines ≡ query.lines) × IsFalsified under (places_of before) p
+    (after ≡ before) × IsFalsified under (places_of before) p
 
 -- the search has come further, or a row meets all, or the literals that are assumed are refuted
 abbrev pub IsTurned : List ℕ → Filed → Query → Filed → Query → Outcome → Type 0

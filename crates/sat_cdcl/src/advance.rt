@@ -30,7 +30,8 @@ pub(crate) enum Move {
 /// The place of a literal that is true.
 fn place_of(trail: &Trail, lit: Lit) -> u32
     requires { Contains (lits_of trail.now.places) lit }
-    ensures { slice_get (lits_of trail.now.places) result ≡ Some lit }
+    ensures at { slice_get (lits_of trail.now.places) result ≡ Some lit }
+    ensures is { IsAssigned trail.now }
 {
     for at in 0..trail.len() {
         if trail.place(at).lit == lit {
@@ -74,6 +75,7 @@ pub(crate) fn advance(
     requires under_way { IsUnderWay under.now db.old query.old }
     ensures order { order.new ≡ order.old }
     ensures kept { IsKept db.old db.new }
+    ensures lines { query.new.lines ≡ query.old.lines }
     ensures advanced { IsAdvanced under.now db.old query.old db.new query.new result }
 {
     match next_assumed(db.trail(), under, &mut query.cursor) {

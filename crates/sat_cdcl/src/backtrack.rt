@@ -1,6 +1,6 @@
 //! What is done with a conflict.
 
-ghost use Rattle.std.specs.Prelude.{◌≡◌, ℕ, List, IfOk, ◌≤◌};
+ghost use Rattle.std.specs.Prelude.{◌≡◌, ℕ, ◌+◌, ◌≤◌, List, length, IfOk, OnOk};
 ghost use Rattle.sat_plain.specs.Turns.{IsFurther};
 ghost use Rattle.sat_watch.specs.Steps.{IsConflict, IsStep};
 ghost use Rattle.sat_cdcl.specs.Files.{list_of, places_of, IsKept};
@@ -63,6 +63,7 @@ fn learn(
     requires order { db.old.watched.trail.vars ≤ order.old }
     ensures order { order.new ≡ order.old }
     ensures kept { IsKept db.old db.new }
+    ensures one { OnOk result (length query.new.lines ≡ length query.old.lines + 1) }
     ensures reacted { IfOk result (λ reaction. (under : List ℕ) → IsUnderWay under db.old query.old
         → IsReacted under db.old query.old db.new query.new reaction) }
 {
@@ -92,6 +93,7 @@ pub(crate) fn react(
     requires order { db.old.watched.trail.vars ≤ order.old }
     ensures order { order.new ≡ order.old }
     ensures kept { IsKept db.old db.new }
+    ensures one { OnOk result (length query.new.lines ≡ length query.old.lines + 1) }
     ensures reacted { IfOk result (λ reaction. (under : List ℕ) → IsUnderWay under db.old query.old
         → IsReacted under db.old query.old db.new query.new reaction) }
 {
