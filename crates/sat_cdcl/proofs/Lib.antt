@@ -4,3 +4,4 @@ pub mod LowerLemmas
 pub mod ConcludeLemmas
 pub mod SearchLemmas
 pub mod RowLemmas
+pub mod LoopLemmas
