@@ -5,3 +5,4 @@ pub mod ConcludeLemmas
 pub mod SearchLemmas
 pub mod RowLemmas
 pub mod LoopLemmas
+pub mod QueryLemmas
