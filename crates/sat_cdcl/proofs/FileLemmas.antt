@@ -1,18 +1,17 @@
 -- Clauses by number, as they come and go.
-use Rattle.std.proofs.Common.{◌≡◌, ◌≢◌, ℕ, ◌+◌, ◌-◌, ◌<◌, ◌≤◌, Bool, true, false, nat_lt, cond, List, [], ◌∷◌, ◌++◌, length, get_or, map, set, take, Some, slice_get, inl, inr, refl, sym, subst, ◌∙◌, ap, arith, append-nil, append_assoc}
-use Rattle.std.specs.List.{All, Contains}
+use Rattle.std.proofs.Common.{◌≡◌, ◌≢◌, ℕ, ◌+◌, ◌<◌, ◌≤◌, Bool, true, false, nat_lt, cond, List, [], ◌∷◌, ◌++◌, length, get_or, map, set, take, Some, slice_get, inl, inr, refl, sym, subst, ◌∙◌, ap, arith, append-nil, append_assoc}
+use Rattle.std.specs.List.{Contains}
 use Rattle.std.specs.Option.{option_map}
-use Rattle.std.proofs.Math.Seq.{take-length}
 use Rattle.std.proofs.lemmas.Bool.{both_ways}
 use Rattle.std.proofs.lemmas.Bool.Decides.{eqb_tells, nat_tests}
-use Rattle.std.proofs.lemmas.List.{ext_get_or, length-map, length-set, length-take, length_push, get_or-map, get_or-set_same, get_or_push, map_push, take_at}
+use Rattle.std.proofs.lemmas.List.{ext_get_or, length-map, length-set, length-take, length_push, get_or-set_same, get_or_push, map_push, take_at}
 use Rattle.std.proofs.lemmas.Option.{get_or_from_slice_get, slice_get-get_or, slice_get-map, slice_get_within}
 use Rattle.ja_base.specs.Literals.{bit}
 use Rattle.refute_check.specs.Checked.{clauses_at}
 use Rattle.sat_plain.specs.declared.place.Place.{Place}
 use Rattle.sat_plain.specs.Trails.{Assigned}
 use Rattle.sat_plain.proofs.Members.{taken_at}
-use Rattle.sat_plain.proofs.PlaceLemmas.{slice_get_left, slice_get_push, slice_get_take}
+use Rattle.sat_plain.proofs.PlaceLemmas.{slice_get_left, slice_get_push}
 use Rattle.sat_plain.proofs.WalkLemmas.{taken_has}
 use Rattle.sat_plain.proofs.TrailLemmas.{bit_set_other, bit_set_same, bit_within}
 use Rattle.sat_watch.specs.declared.tag.Tag.{Tag}

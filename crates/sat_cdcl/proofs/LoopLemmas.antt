@@ -1,6 +1,6 @@
 -- What a search keeps over a turn, and what it answers with.
-use Rattle.std.proofs.Common.{◌≡◌, ◌≢◌, ℕ, ◌+◌, ◌^◌, ◌≤◌, Bool, false, true, List, [], ◌++◌, length, get_or, take, Option, Some, None, is_none, slice_get, refl, sym, subst, ◌∙◌, ap, arith, append-nil}
-use Rattle.std.specs.List.{All, Contains}
+use Rattle.std.proofs.Common.{◌≡◌, ℕ, ◌^◌, ◌≤◌, Bool, false, List, [], length, take, Some, None, is_none, slice_get, refl, sym, subst, ◌∙◌, ap, arith, append-nil}
+use Rattle.std.specs.List.{Contains}
 use Rattle.std.proofs.lemmas.Bool.{both_ways}
 use Rattle.std.proofs.lemmas.List.{take_at}
 use Rattle.std.proofs.lemmas.List.Elements.{All-append, All-nil, All-same, All-take}
@@ -12,7 +12,7 @@ use Rattle.refute_check.specs.Refuted.{is_covered}
 use Rattle.refute_check.specs.declared.lines.Line.{Line}
 use Rattle.refute_check.specs.declared.lines.Refuted.{Refuted}
 use Rattle.sat_plain.specs.declared.place.Place.{Place}
-use Rattle.sat_plain.specs.Trails.{IsGrown, lits_of, kinds_of}
+use Rattle.sat_plain.specs.Trails.{lits_of, kinds_of}
 use Rattle.sat_plain.specs.Rank.{rank}
 use Rattle.sat_plain.specs.Ticks.{TicksAtMost}
 use Rattle.sat_plain.specs.Payments.{Spends}

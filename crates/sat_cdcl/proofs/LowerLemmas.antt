@@ -1,13 +1,11 @@
 -- Below the literal that was found.
-use Rattle.std.proofs.Common.{◌≡◌, ◌≢◌, ℕ, ◌+◌, ◌<◌, ◌≤◌, Bool, true, false, List, [], ◌∷◌, ◌++◌, length, get_or, take, drop, Some, None, slice_get, inl, inr, refl, sym, subst, ◌∙◌, ap, arith}
-use Rattle.std.specs.List.{All, Contains}
+use Rattle.std.proofs.Common.{◌≡◌, ℕ, ◌+◌, ◌≤◌, true, false, List, [], ◌∷◌, ◌++◌, take, drop, Some, slice_get, inl, inr, sym, subst, ◌∙◌, ap, arith}
+use Rattle.std.specs.List.{Contains}
 use Rattle.std.proofs.lemmas.List.Elements.{Contains-push_cases, Contains-append_left}
 use Rattle.std.proofs.lemmas.Option.{slice_get-get_or}
-use Rattle.std.proofs.Math.Seq.{take-length}
-use Rattle.ja_base.specs.Literals.{bit, negated}
+use Rattle.ja_base.specs.Literals.{negated}
 use Rattle.ja_base.specs.Clauses.{IsSetOf}
 use Rattle.ja_base.proofs.LiteralLemmas.{negated_twice}
-use Rattle.ja_base.specs.Trails.{IsReason}
 use Rattle.sat_plain.specs.declared.place.Place.{Place}
 use Rattle.sat_plain.specs.Trails.{lits_of}
 use Rattle.sat_plain.specs.Derive.{Derived, IsDerived}

@@ -1,21 +1,21 @@
 -- Down the trail to the literal that is kept.
-use Rattle.std.proofs.Common.{◌≡◌, ◌≢◌, ℕ, ◌+◌, ◌-◌, ◌*◌, ◌<◌, ◌≤◌, Bool, true, false, not, List, [], ◌∷◌, ◌++◌, length, get_or, take, drop, Option, Some, None, zero, suc, slice_get, inl, inr, refl, sym, subst, ◌∙◌, ap, arith}
-use Rattle.std.specs.List.{All, Contains}
+use Rattle.std.proofs.Common.{◌≡◌, ℕ, ◌+◌, ◌-◌, ◌*◌, ◌<◌, ◌≤◌, Bool, true, false, not, List, length, get_or, take, drop, Option, Some, None, zero, suc, slice_get, inl, inr, refl, sym, subst, ◌∙◌, ap, arith}
+use Rattle.std.specs.List.{Contains}
 use Rattle.std.specs.Option.{is_some, IfNone}
 use Rattle.std.proofs.lemmas.Bool.Decides.{eqb_tells}
 use Rattle.std.proofs.lemmas.List.{length-take, length-drop, take-take, get_or-take, get_or-drop, get_or_default}
 use Rattle.std.proofs.lemmas.Option.{get_or_from_slice_get, slice_get-get_or, slice_get_within, same_Some}
 use Rattle.ja_base.specs.Literals.{bit, variable, negated}
 use Rattle.ja_base.proofs.LiteralLemmas.{literal_within, negated_within}
-use Rattle.ja_base.specs.Trails.{IsTrail, IsReason, AreApart}
+use Rattle.ja_base.specs.Trails.{IsTrail, AreApart}
 use Rattle.sat_plain.specs.declared.place.Place.{Place}
 use Rattle.sat_plain.specs.Trails.{lits_of}
-use Rattle.sat_plain.specs.Derive.{Derived, IsDerived, IsWalked}
+use Rattle.sat_plain.specs.Derive.{Derived, IsDerived}
 use Rattle.sat_plain.proofs.Members.{taken_at, dropped_at}
 use Rattle.sat_plain.proofs.DeriveLemmas.{skipped}
 use Rattle.sat_plain.proofs.PlaceLemmas.{lits_at, lits_length, slice_get_take}
 use Rattle.sat_plain.proofs.WalkLemmas.{place_below, walked_of}
-use Rattle.sat_cdcl.specs.Walks.{IsDecided, AreUnmarked, GoesOn}
+use Rattle.sat_cdcl.specs.Walks.{AreUnmarked, GoesOn}
 
 pub none_from : {X : Type 0} (o : Option X) (r : Bool) → is_some o ≡ not r → r ≡ true → o ≡ None
 none_from None r e t = refl

@@ -1,20 +1,20 @@
 -- What a search keeps, part by part.
-use Rattle.std.proofs.Common.{◌≡◌, ◌≢◌, ℕ, ◌+◌, ◌<◌, ◌≤◌, ◌-◌, ◌⊎◌, Bool, true, false, List, [], ◌∷◌, ◌++◌, length, get_or, map, take, drop, Option, Some, None, is_none, unwrap_or, cond, slice_get, inl, inr, refl, sym, subst, ◌∙◌, ap, arith, append_assoc, append-nil}
+use Rattle.std.proofs.Common.{◌≡◌, ℕ, ◌<◌, ◌≤◌, ◌-◌, ◌⊎◌, Bool, true, false, List, [], ◌∷◌, ◌++◌, length, get_or, map, take, drop, Option, Some, None, is_none, unwrap_or, cond, slice_get, inl, inr, refl, sym, subst, ◌∙◌, ap, arith, append_assoc, append-nil}
 use Rattle.std.specs.List.{All, Contains, list_any, list_all}
 use Rattle.std.proofs.Math.Seq.{take-length}
 use Rattle.std.proofs.lemmas.Bool.{or_left, or_right, both_ways, cases_lt, false_from_ne_true}
 use Rattle.std.proofs.lemmas.Bool.Decides.{Decides-by_and}
-use Rattle.std.proofs.lemmas.List.{length-take, length-append, length-map, length_push, take-append-le, take-take, take_at, get_or-map, get_or-take, get_or_append_left, get_or-append_right}
-use Rattle.std.proofs.lemmas.List.Elements.{All-nil, All-cons, All-take, Contains-get_or, Contains-append_left}
+use Rattle.std.proofs.lemmas.List.{length-take, length-append, length-map, length_push, take-append-le, take-take, get_or-map, get_or-take, get_or_append_left, get_or-append_right}
+use Rattle.std.proofs.lemmas.List.Elements.{All-nil, All-cons, All-take, Contains-get_or}
 use Rattle.std.proofs.lemmas.List.Recursion.{or_at}
 use Rattle.std.proofs.lemmas.Option.{get_or_from_slice_get, slice_get_within, slice_get-get_or, same_Some, none-some}
 use Rattle.ja_base.specs.Literals.{bit, variable, negated}
 use Rattle.ja_base.specs.Clauses.{has_literal}
 use Rattle.ja_base.proofs.ClauseLemmas.{has_literal_decides}
-use Rattle.ja_base.proofs.LiteralLemmas.{variable_negated, negated_twice}
+use Rattle.ja_base.proofs.LiteralLemmas.{variable_negated}
 use Rattle.ja_base.specs.Trails.{IsTrail, AreApart}
 use Rattle.refute_check.specs.Lines.{refusal}
-use Rattle.refute_check.specs.Refuted.{is_false_under, is_covered, has_both_signs}
+use Rattle.refute_check.specs.Refuted.{is_false_under, has_both_signs}
 use Rattle.refute_check.specs.declared.lines.Line.{Line}
 use Rattle.sat_plain.specs.declared.place.Place.{Place}
 use Rattle.sat_plain.specs.Trails.{IsGrown, lits_of, kinds_of}
@@ -33,10 +33,10 @@ use Rattle.sat_cdcl.specs.declared.query.Query.{Query}
 use Rattle.sat_cdcl.proofs.FileLemmas.{last_is}
 use Rattle.sat_watch.specs.Stores.{value_of}
 use Rattle.sat_cdcl.specs.Files.{Filed, IsKept, list_of, places_of, AreForcedAll}
-use Rattle.sat_cdcl.specs.Walks.{IsDecided, IsAsserting}
+use Rattle.sat_cdcl.specs.Walks.{IsDecided}
 use Rattle.sat_cdcl.specs.Assumptions.{DecidesUnder, IsFreeFrom, IsAssuming, AreNegatedIn, IsRetreated}
 use Rattle.sat_cdcl.specs.Turns.{IsUnderWay, IsLogged, IsOnward, IsRefuting}
-use Rattle.sat_cdcl.proofs.PointLemmas.{apart_at, into_taken}
+use Rattle.sat_cdcl.proofs.PointLemmas.{apart_at}
 
 -- ---- a core
 
@@ -166,7 +166,7 @@ assumed_on under before after l free cursor h has old first = record {
       omega (arith, g.0, longer_of before after x h),
       decides_after under before after x f h g.1 (λ _ _. has),
       (let P : List ℕ → Type 0 = λ v. All (Contains v) under in
-      subst P (sym (lits_first_of before after f grown g.0)) g.2),
+          subst P (sym (lits_first_of before after f grown g.0)) g.2),
     )
 
 -- another literal was decided, where all of `under` are true

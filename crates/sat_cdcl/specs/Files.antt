@@ -1,5 +1,5 @@
 -- What a contract sees of a database: a trail over clauses in slots, and the slot of each clause by its number.
-use Rattle.std.specs.Prelude.{◌≡◌, ◌≢◌, ℕ, ◌<◌, ◌≤◌, ◌++◌, Bool, true, List, length, take, All, Contains, slice_get, Some, is_none, false}
+use Rattle.std.specs.Prelude.{◌≡◌, ℕ, ◌≤◌, ◌++◌, true, List, length, take, All, Contains, slice_get, Some, is_none, false}
 use Rattle.ja_base.specs.Literals.{bit}
 use Rattle.refute_check.specs.Checked.{clauses_at}
 use Rattle.sat_plain.specs.declared.place.Place.{Place}

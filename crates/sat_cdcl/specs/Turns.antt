@@ -6,8 +6,7 @@ use Rattle.sat_plain.specs.declared.place.Place.{Place}
 use Rattle.sat_plain.specs.Trails.{lits_of}
 use Rattle.ja_base.specs.declared.meter.Meter.{Meter}
 use Rattle.refute_check.specs.declared.lines.Line.{Line}
-use Rattle.sat_plain.specs.Answer.{OnUnsat}
-use Rattle.sat_plain.specs.Ticks.{IsRefused, IsTicked, SpendsAtLeast}
+use Rattle.sat_plain.specs.Ticks.{IsRefused}
 use Rattle.sat_plain.specs.Payments.{Spends}
 use Rattle.sat_plain.specs.Turns.{IsLog, IsCore, IsModel, IsFurther}
 use Rattle.sat_plain.specs.Outcomes.{SpendsFor}

@@ -1,5 +1,5 @@
 -- What a walk down the trail finds of a conflict.
-use Rattle.std.specs.Prelude.{◌≡◌, ◌≢◌, ℕ, ◌<◌, ◌≤◌, Bool, true, false, List, [], ◌∷◌, length, take, drop, All, Contains, slice_get, Option, Some, None, ⊤, ◌+◌}
+use Rattle.std.specs.Prelude.{◌≡◌, ◌≢◌, ℕ, ◌<◌, ◌≤◌, false, List, [], ◌∷◌, take, drop, Contains, slice_get, Option, Some, None, ⊤, ◌+◌}
 use Rattle.ja_base.specs.Literals.{bit, negated}
 use Rattle.ja_base.specs.Trails.{IsReason}
 use Rattle.sat_plain.specs.declared.place.Place.{Place}

@@ -105,12 +105,7 @@ fn below(derivation: &Derivation, trail: &Trail, at: u32) -> Met
 
 /// The last decision below a place, if no literal down to it is marked. No place is looked at again while one that is known to
 /// be marked, `other`, stands below.
-fn back_below(
-    derivation: &Derivation,
-    trail: &Trail,
-    at: u32,
-    other: &mut u32,
-) -> Option<u32>
+fn back_below(derivation: &Derivation, trail: &Trail, at: u32, other: &mut u32) -> Option<u32>
     requires at { at ≤ length trail.now.places }
     requires width { length derivation.now.marks ≡ 2 * trail.now.vars }
     ensures { IfSome result (λ k. (k < at) × IsDecided trail.now.places k

@@ -68,11 +68,7 @@ fn conclude(
 }
 
 /// What refutes the literals that were decided, since the clause of this slot is false.
-pub(crate) fn refute_conflict(
-    alloc: Global,
-    db: &Database,
-    conflict: u32,
-) -> Result<Line, Memory>
+pub(crate) fn refute_conflict(alloc: Global, db: &Database, conflict: u32) -> Result<Line, Memory>
     requires conflict { IsConflict db.now.watched conflict }
     ensures accepted { IfOk result (λ line. refusal db.now.watched.trail.vars
         (list_of db.now) line.clause line.hints ≡ None) }
@@ -86,12 +82,7 @@ pub(crate) fn refute_conflict(
 }
 
 /// What refutes the negation of the literal of a place with those that were decided before, since its reason would be false.
-pub(crate) fn refute_place(
-    alloc: Global,
-    db: &Database,
-    at: u32,
-    slot: u32,
-) -> Result<Line, Memory>
+pub(crate) fn refute_place(alloc: Global, db: &Database, at: u32, slot: u32) -> Result<Line, Memory>
     requires at { at < length (places_of db.now) }
     requires reason { HasReason (places_of db.now) at slot }
     ensures accepted { IfOk result (λ line. refusal db.now.watched.trail.vars

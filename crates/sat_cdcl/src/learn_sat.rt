@@ -125,7 +125,15 @@ impl LearnSat {
         let _root = self.db.propagate();
         let root = self.db.trail().len();
         let added = self.db.len();
-        let answer = ask(alloc, &mut self.db, &mut self.order, under, extra, meter, flag);
+        let answer = ask(
+            alloc,
+            &mut self.db,
+            &mut self.order,
+            under,
+            extra,
+            meter,
+            flag,
+        );
         self.order.release_all(self.db.trail(), root);
         self.db.undo(root);
         self.db.cut(added);

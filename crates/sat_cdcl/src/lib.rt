@@ -10,11 +10,14 @@ mod budget;
 mod conclude;
 mod database;
 mod decide;
+mod learn_probe;
 mod learn_sat;
 mod log;
 mod minimize;
 mod query;
 mod search;
+#[cfg(test)]
+mod tests;
 mod turn;
 
 pub use learn_sat::LearnSat;

@@ -1,4 +1,4 @@
-use Rattle.std.proofs.Common.{◌≡◌, ℕ, List, Some, None, unwrap_or, length, refl, sym, subst, ◌∙◌, ap}
+use Rattle.std.proofs.Common.{◌≡◌, ℕ, List, Some, None, unwrap_or, length, refl, ◌∙◌, ap}
 use Rattle.sat_plain.specs.declared.place.Place.{Place}
 use Rattle.sat_plain.specs.Trails.{Assigned}
 use Rattle.sat_cdcl.specs.declared.query.Query.{Query}

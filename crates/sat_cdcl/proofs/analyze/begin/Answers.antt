@@ -1,10 +1,9 @@
-use Rattle.std.proofs.Common.{◌≡◌, ℕ, List, length, Some, slice_get, sym, subst, ◌∙◌, ap}
+use Rattle.std.proofs.Common.{◌≡◌, ℕ, List, length, sym, subst, ◌∙◌}
 use Rattle.std.proofs.lemmas.Option.{same_Some}
 use Rattle.ja_base.specs.Trails.{AreFalse}
 use Rattle.sat_plain.specs.Trails.{lits_of}
 use Rattle.sat_plain.specs.Derive.{IsDerived}
 use Rattle.sat_plain.proofs.PlaceLemmas.{lits_length}
-use Rattle.sat_watch.specs.Stores.{Stored}
 use Rattle.sat_cdcl.specs.Files.{list_of, places_of}
 use Rattle.sat_cdcl.proofs.analyze.begin.Goals as goal
 

@@ -1,7 +1,6 @@
-use Rattle.std.proofs.Common.{◌≡◌, ℕ, ◌+◌, ◌-◌, ◌<◌, Bool, false, None, length, sym, ◌∙◌, arith}
+use Rattle.std.proofs.Common.{◌≡◌, ℕ, ◌-◌, false, length, arith}
 use Rattle.ja_base.specs.Literals.{bit}
 use Rattle.sat_plain.specs.declared.place.Place.{Place}
-use Rattle.sat_cdcl.specs.Walks.{AreUnmarked}
 use Rattle.sat_cdcl.proofs.PointLemmas.{none_from, unmarked_from, within_marks, unmarked_more}
 use Rattle.sat_cdcl.proofs.analyze.below.Goals as goal
 

@@ -1,4 +1,3 @@
-use Rattle.std.proofs.Common.{ℕ, ◌≤◌}
 use Rattle.sat_cdcl.specs.Walks.{AreUnmarked}
 use Rattle.sat_cdcl.proofs.analyze.below.Given as goal
 

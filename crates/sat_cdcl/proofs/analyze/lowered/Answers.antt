@@ -1,11 +1,9 @@
 use Rattle.std.proofs.Common.{◌≡◌, ℕ, List, sym, subst, arith}
-use Rattle.ja_base.specs.Literals.{negated}
 use Rattle.sat_plain.specs.declared.place.Place.{Place}
 use Rattle.sat_plain.specs.Trails.{lits_of}
-use Rattle.sat_cdcl.specs.declared.analyze.Walk.{Walk}
 use Rattle.sat_cdcl.specs.Files.{list_of, places_of}
 use Rattle.sat_cdcl.specs.Walks.{IsLowering, IsAsserting}
-use Rattle.sat_cdcl.proofs.LowerLemmas.{lowering_first, asserting_of}
+use Rattle.sat_cdcl.proofs.LowerLemmas.{asserting_of}
 use Rattle.sat_cdcl.proofs.analyze.lowered.Goals as goal
 
 pub returns-clause-accepted : goal.returns-clause-accepted

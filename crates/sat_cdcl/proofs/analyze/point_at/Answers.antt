@@ -1,5 +1,4 @@
-use Rattle.std.proofs.Common.{◌≡◌, ℕ, ◌+◌, ◌-◌, ◌<◌, ◌≤◌, List, [], ◌∷◌, ◌++◌, length, drop, Some, slice_get, sym, subst, ◌∙◌, ap, arith}
-use Rattle.std.specs.List.{Contains}
+use Rattle.std.proofs.Common.{◌≡◌, ℕ, ◌+◌, ◌-◌, ◌<◌, List, [], ◌∷◌, ◌++◌, length, Some, slice_get, subst, ◌∙◌, ap, arith}
 use Rattle.std.proofs.lemmas.Bool.{OnTrue_at}
 use Rattle.ja_base.specs.Literals.{bit, negated}
 use Rattle.sat_plain.specs.declared.place.Place.{Place}

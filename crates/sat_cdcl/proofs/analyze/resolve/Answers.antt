@@ -1,10 +1,9 @@
-use Rattle.std.proofs.Common.{◌≡◌, ℕ, ◌+◌, List, length, take, Some, slice_get, sym, subst, ◌∙◌, ap, arith}
+use Rattle.std.proofs.Common.{◌≡◌, ℕ, ◌+◌, List, length, take, sym, subst, ◌∙◌, ap, arith}
 use Rattle.std.proofs.lemmas.Option.{same_Some}
 use Rattle.ja_base.specs.Trails.{IsReason}
 use Rattle.sat_plain.specs.declared.place.Place.{Place}
 use Rattle.sat_plain.specs.Trails.{lits_of}
 use Rattle.sat_plain.proofs.PlaceLemmas.{lits_at}
-use Rattle.sat_plain.proofs.WalkLemmas.{spans_of}
 use Rattle.sat_cdcl.specs.Files.{list_of, places_of}
 use Rattle.sat_cdcl.proofs.PointLemmas.{within_marks, taken_same_at, taken_same_less}
 use Rattle.sat_cdcl.proofs.analyze.resolve.Goals as goal

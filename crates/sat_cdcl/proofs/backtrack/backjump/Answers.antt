@@ -1,4 +1,4 @@
-use Rattle.std.proofs.Common.{◌≡◌, ℕ, ◌<◌, ◌≤◌, Bool, List, [], ◌∷◌, ◌++◌, length, take, drop, Some, slice_get, refl, sym, subst, ◌∙◌, ap, arith, append-nil}
+use Rattle.std.proofs.Common.{◌≡◌, ℕ, ◌<◌, List, [], ◌∷◌, ◌++◌, length, take, drop, Some, slice_get, refl, sym, subst, ◌∙◌, ap, arith, append-nil}
 use Rattle.std.specs.List.{Contains}
 use Rattle.std.proofs.lemmas.List.Elements.{All-contains}
 use Rattle.std.proofs.lemmas.Option.{slice_get_within}
@@ -9,7 +9,7 @@ use Rattle.sat_plain.specs.declared.place.Place.{Place}
 use Rattle.sat_plain.specs.Trails.{Assigned, IsAssigned, lits_of}
 use Rattle.sat_plain.proofs.Members.{dropped_at}
 use Rattle.sat_plain.proofs.PlaceLemmas.{lits_take, lits_length}
-use Rattle.sat_watch.specs.Stores.{Stored, IsThere}
+use Rattle.sat_watch.specs.Stores.{Stored}
 use Rattle.sat_watch.specs.Steps.{IsForcedOn}
 use Rattle.sat_cdcl.specs.Files.{places_of, list_of}
 use Rattle.sat_cdcl.proofs.SearchLemmas.{unset_back, root_back, further_back, retreated_on}

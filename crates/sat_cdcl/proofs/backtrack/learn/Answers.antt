@@ -1,4 +1,4 @@
-use Rattle.std.proofs.Common.{◌≡◌, ℕ, List, [], Option, Some, None, length, refl, sym, subst, ◌∙◌, ap}
+use Rattle.std.proofs.Common.{◌≡◌, ℕ, List, [], Option, refl, sym, subst, ◌∙◌}
 use Rattle.std.specs.List.{Contains}
 use Rattle.refute_check.specs.declared.lines.Line.{Line}
 use Rattle.sat_plain.specs.Trails.{Assigned}
@@ -6,7 +6,7 @@ use Rattle.sat_plain.specs.Turns.{IsFurther}
 use Rattle.sat_plain.proofs.Members.{Contains-none}
 use Rattle.sat_cdcl.specs.declared.analyze.Point.{Point}
 use Rattle.sat_cdcl.specs.declared.query.Query.{Query}
-use Rattle.sat_cdcl.specs.Files.{Filed, list_of, places_of}
+use Rattle.sat_cdcl.specs.Files.{Filed, places_of}
 use Rattle.sat_cdcl.specs.Walks.{IsLearntAt}
 use Rattle.sat_cdcl.specs.Assumptions.{IsAssuming}
 use Rattle.sat_cdcl.proofs.FileLemmas.{kept_same, kept_chain}

@@ -1,4 +1,4 @@
-use Rattle.std.proofs.Common.{◌≡◌, ℕ, ◌+◌, ◌-◌, ◌≤◌, List, take, subst, sym, ◌∙◌, ap, arith}
+use Rattle.std.proofs.Common.{◌≡◌, ℕ, ◌+◌, ◌-◌, ◌≤◌, List, subst, ◌∙◌, arith}
 use Rattle.sat_plain.specs.Trails.{lits_of}
 use Rattle.sat_plain.specs.Derive.{IsDerived}
 use Rattle.sat_cdcl.specs.Files.{list_of, places_of}

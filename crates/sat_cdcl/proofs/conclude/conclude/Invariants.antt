@@ -1,4 +1,4 @@
-use Rattle.std.proofs.Common.{◌≡◌, ◌≤◌, ℕ, List, length, take}
+use Rattle.std.proofs.Common.{◌≡◌, ℕ, List, length, take}
 use Rattle.sat_plain.specs.Trails.{lits_of}
 use Rattle.sat_plain.specs.Derive.{IsDerived, IsWalked}
 use Rattle.sat_cdcl.specs.Files.{list_of, places_of}

@@ -1,4 +1,4 @@
-use Rattle.std.proofs.Common.{◌≡◌, ℕ, ◌+◌, List, [], ◌∷◌, ◌++◌, length, inl, inr, sym, subst, ◌∙◌, ap, arith}
+use Rattle.std.proofs.Common.{◌≡◌, ℕ, List, length, inl, inr, sym, subst, ◌∙◌, ap, arith}
 use Rattle.std.specs.List.{Contains}
 use Rattle.std.proofs.lemmas.Bool.{OnTrue_at}
 use Rattle.std.proofs.lemmas.List.Elements.{Contains-push_cases}
@@ -40,7 +40,7 @@ returns-in_ok-keep-in-None-clause-kept c = λ under decides old m has.
     let place : Place = c.place-place.result in
     let M : List ℕ → Type 0 = λ v. Contains v m in
     elim (Contains-push_cases c.args.derivation.now.lits (negated place.lit) m
-      (subst M c.in_ok-keep-in-None.ensures.lits has)) [
+    (subst M c.in_ok-keep-in-None.ensures.lits has)) [
       | inl k ↦ old m k
       | inr new ↦
           let same : place.lit ≡ negated m = sym (negated_twice place.lit) ∙ ap negated new in

@@ -1,5 +1,4 @@
-use Rattle.std.proofs.Common.{◌≡◌, ℕ, ◌^◌, ◌<◌, List, refl, subst, ◌∙◌, ap, arith}
-use Rattle.ja_outside.specs.Flags.{IsPolled}
+use Rattle.std.proofs.Common.{◌≡◌, ℕ, ◌^◌, ◌<◌, List, refl, ◌∙◌, ap, arith}
 use Rattle.sat_plain.specs.declared.place.Place.{Place}
 use Rattle.sat_plain.specs.Trails.{kinds_of}
 use Rattle.sat_plain.specs.Rank.{rank}

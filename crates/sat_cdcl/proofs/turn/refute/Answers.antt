@@ -1,4 +1,4 @@
-use Rattle.std.proofs.Common.{ℕ, refl, arith}
+use Rattle.std.proofs.Common.{refl}
 use Rattle.std.proofs.lemmas.Option.{slice_get_within}
 use Rattle.refute_check.specs.declared.lines.Line.{Line}
 use Rattle.sat_plain.proofs.PlaceLemmas.{lits_at}

@@ -1,4 +1,4 @@
-use Rattle.std.proofs.Common.{◌≡◌, ℕ, ◌+◌, List, length, true, false, refl, sym, ◌∙◌}
+use Rattle.std.proofs.Common.{ℕ, List, length, true, refl}
 use Rattle.std.proofs.lemmas.Bool.{OnTrue_at}
 use Rattle.sat_plain.specs.declared.place.Place.{Place}
 use Rattle.sat_plain.specs.Trails.{lits_of}

@@ -1,9 +1,8 @@
-use Rattle.std.proofs.Common.{◌≡◌, ℕ, ◌-◌, ◌<◌, ◌≤◌, List, length, take, Some, slice_get, sym, subst, ◌∙◌, ap, arith}
+use Rattle.std.proofs.Common.{◌≡◌, ℕ, ◌-◌, ◌<◌, List, length, take, slice_get, sym, subst, ◌∙◌, ap, arith}
 use Rattle.std.specs.List.{Contains}
 use Rattle.std.proofs.lemmas.List.{length-take, take-take}
 use Rattle.sat_plain.specs.Trails.{Assigned}
-use Rattle.sat_plain.specs.declared.place.Place.{Place}
-use Rattle.sat_cdcl.specs.Files.{Filed, list_of, places_of}
+use Rattle.sat_cdcl.specs.Files.{list_of}
 use Rattle.sat_cdcl.proofs.FileLemmas.{taken_more}
 use Rattle.sat_cdcl.proofs.database.Database.cut.Goals as goal
 

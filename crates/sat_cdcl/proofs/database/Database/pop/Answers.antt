@@ -6,7 +6,7 @@ use Rattle.std.proofs.lemmas.Option.{slice_get_within}
 use Rattle.ja_base.specs.Clauses.{IsBelow}
 use Rattle.refute_check.specs.Checked.{clauses_at}
 use Rattle.sat_watch.specs.Stores.{Stored}
-use Rattle.sat_cdcl.specs.Files.{Filed, IsNumbered, IsRooted}
+use Rattle.sat_cdcl.specs.Files.{Filed, IsRooted}
 use Rattle.sat_cdcl.proofs.FileLemmas.{last_is, list_front, idle_last, numbered_pop}
 use Rattle.sat_cdcl.proofs.database.Database.pop.Goals as goal
 

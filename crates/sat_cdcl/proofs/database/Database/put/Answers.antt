@@ -6,7 +6,7 @@ use Rattle.std.proofs.lemmas.List.Elements.{All-push}
 use Rattle.ja_base.specs.Clauses.{IsBelow}
 use Rattle.refute_check.specs.Checked.{clauses_at}
 use Rattle.sat_watch.specs.declared.tag.Tag.{Tag}
-use Rattle.sat_watch.specs.Stores.{Stored, Watched, IsPut}
+use Rattle.sat_watch.specs.Stores.{Stored, IsPut}
 use Rattle.sat_cdcl.specs.Files.{Filed, list_of, IsNumbered}
 use Rattle.sat_cdcl.proofs.FileLemmas.{numbered_put, list_put, there_put}
 use Rattle.sat_cdcl.proofs.database.Database.put.Goals as goal

@@ -1,4 +1,4 @@
-use Rattle.std.proofs.Common.{ℕ, ◌<◌, arith}
+use Rattle.std.proofs.Common.{◌<◌, arith}
 use Rattle.ja_base.specs.Literals.{variable}
 use Rattle.sat_plain.specs.declared.place.Place.{Place}
 use Rattle.sat_plain.proofs.WalkLemmas.{place_below}

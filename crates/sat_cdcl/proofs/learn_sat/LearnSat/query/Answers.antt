@@ -1,8 +1,7 @@
-use Rattle.std.proofs.Common.{◌≡◌, ℕ, ◌≤◌, List, length, take, sym, subst, ◌∙◌, ap, arith}
+use Rattle.std.proofs.Common.{◌≡◌, List, length, take, sym, subst, ◌∙◌, ap, arith}
 use Rattle.sat_plain.specs.declared.place.Place.{Place}
 use Rattle.sat_plain.specs.Trails.{Assigned}
-use Rattle.sat_watch.specs.Stores.{IsHeld}
-use Rattle.sat_cdcl.specs.Files.{Filed, IsNumbered, AreForcedAll, places_of}
+use Rattle.sat_cdcl.specs.Files.{Filed, AreForcedAll, places_of}
 use Rattle.sat_cdcl.proofs.LoopLemmas.{forced_all}
 use Rattle.sat_cdcl.proofs.QueryLemmas.{root_kept, root_within, rooted_kept}
 use Rattle.sat_cdcl.proofs.learn_sat.LearnSat.query.Goals as goal
