@@ -133,6 +133,8 @@ impl Heap {
     /// A variable of the greatest activity leaves the heap, if one is there.
     pub fn pop(&mut self) -> Option<Var>
         ensures some { IfSome result (IsGreatest self.old) }
+        ensures below { IfSome result (λ var. var < length self.old.activity) }
+        ensures small { IfSome result (λ var. var < 2 ^ 31) }
         ensures left { IfSome result (λ var. self.new
             ≡ record self.old { inside = slice_set self.old.inside var false }) }
         ensures empty { IfNone result ((v : ℕ) → bit self.old.inside v ≡ false) }

@@ -3,6 +3,8 @@
 ghost use Rattle.std.specs.Prelude.{◌≡◌, ◌+◌, ◌<◌, ◌≤◌, ◌^◌, ◌∷◌, ◌++◌, [], Bool, false, true, None, Some, length, take, slice_get, slice_set, IfOk, OnOk, OnErr};
 ghost use Rattle.ja_base.specs.Clauses.{IsBelow};
 ghost use Rattle.ja_base.specs.Literals.{bit, variable, negated};
+ghost use Rattle.ja_base.specs.Trails.{IsForcedBy};
+ghost use Rattle.sat_plain.specs.Trails.{lits_of, IsAssigned};
 ghost use Rattle.sat_watch.specs.Stores.{IsHeld, IsIdle, IsPut, value_of};
 ghost use Rattle.sat_watch.specs.Steps.{IsForcedOn, IsStep};
 
@@ -143,6 +145,7 @@ impl Watch {
         requires { to ≤ length self.old.trail.places }
         ensures vars { self.new.trail.vars ≡ self.old.trail.vars }
         ensures places { self.new.trail.places ≡ take to self.old.trail.places }
+        ensures is { IsAssigned self.new.trail }
         ensures store { self.new.store ≡ self.old.store }
     {
         self.trail.undo(to);
@@ -156,9 +159,28 @@ impl Watch {
         ensures places { IsForcedOn (self.old.trail.places
             ++ record { lit = lit; reason = None } ∷ []) self.new.trail.places }
         ensures store { self.new.store ≡ self.old.store }
+        ensures is { IsAssigned self.new.trail }
         ensures step { IsStep self.new result }
     {
         self.trail.push(lit, None);
+        propagate(&mut self.trail, &self.store)
+    }
+
+    /// The literal that the clause of this slot forces becomes true, and all that follows from it.
+    pub fn force(&mut self, lit: Lit, at: u32) -> Step
+        requires below { variable lit < self.old.trail.vars }
+        requires unset { value_of self.old.trail.values lit ≡ None }
+        requires forced { IsForcedBy self.old.store.clauses
+            (lits_of self.old.trail.places) lit at }
+        requires live { bit self.old.store.live at ≡ true }
+        ensures vars { self.new.trail.vars ≡ self.old.trail.vars }
+        ensures places { IsForcedOn (self.old.trail.places
+            ++ record { lit = lit; reason = Some at } ∷ []) self.new.trail.places }
+        ensures store { self.new.store ≡ self.old.store }
+        ensures is { IsAssigned self.new.trail }
+        ensures step { IsStep self.new result }
+    {
+        self.trail.push(lit, Some(at));
         propagate(&mut self.trail, &self.store)
     }
 
@@ -167,6 +189,7 @@ impl Watch {
         ensures vars { self.new.trail.vars ≡ self.old.trail.vars }
         ensures places { IsForcedOn self.old.trail.places self.new.trail.places }
         ensures store { self.new.store ≡ self.old.store }
+        ensures is { IsAssigned self.new.trail }
         ensures step { IsStep self.new result }
     {
         propagate(&mut self.trail, &self.store)

@@ -1,0 +1,5 @@
+pub mod Files
+pub mod Walks
+pub mod Assumptions
+pub mod Payments
+pub mod Turns

@@ -1,0 +1,159 @@
+//! Which variable is decided next, and with which sign.
+
+ghost use Rattle.std.specs.Prelude.{◌≡◌, ◌+◌, ◌*◌, ◌<◌, ◌≤◌, ◌^◌, None, false, length, IfOk, IfSome, IfNone, OnOk, OnErr};
+ghost use Rattle.std.specs.Bool.{OnTrue};
+ghost use Rattle.ja_base.specs.Literals.{bit, variable};
+ghost use Rattle.ja_base.specs.Trails.{IsFull};
+ghost use Rattle.sat_plain.specs.Trails.{IsAssigned};
+ghost use Rattle.sat_watch.specs.Stores.{value_of};
+
+use ja_base::{Lit, Memory, Var};
+use sat_heap::Heap;
+use sat_plain::Trail;
+use std::alloc::Global;
+use std::marker::Model;
+
+/// Activities fade once in so many conflicts.
+const FADES_EVERY: u32 = 16;
+
+/// Variables by their activity, the sign of each when it last had a value, and how many conflicts came since activities faded.
+#[derive(Debug, Drop)]
+pub(crate) struct Order {
+    heap: Heap,
+    negs: Vec<bool>,
+    conflicts: u32,
+}
+
+impl Model for Order {
+    ghost use Rattle.std.specs.Prelude.{◌≡◌, ℕ, length};
+
+    ghost Value = { ℕ };
+
+    ghost view = { λ a. length a.negs.items };
+
+    ghost invariant = { λ a. length a.heap.activity ≡ length a.negs.items };
+}
+
+/// Whether the variable has no value.
+fn is_unset(trail: &Trail, var: Var) -> bool
+    requires below { var < trail.now.vars }
+    requires small { var < 2 ^ 31 }
+    ensures { OnTrue result ((bit trail.now.values (2 * var) ≡ false)
+        × (bit trail.now.values (2 * var + 1) ≡ false)) }
+{
+    let lit = Lit::new(var, false);
+    !trail.is_true(lit) && !trail.is_true(lit.not())
+}
+
+impl Order {
+    /// Each variable has activity 0 and is decided to be 0 at first.
+    pub(crate) fn new(alloc: Global, vars: u32) -> Result<Order, Memory>
+        ensures { IfOk result (λ order. order ≡ vars) }
+    {
+        let heap = Heap::new(alloc, vars)?;
+        let negs = vec![in alloc; true; vars as usize]?;
+        Ok(Order {
+            heap,
+            negs,
+            conflicts: 0,
+        })
+    }
+
+    /// One more variable.
+    pub(crate) fn fresh(&mut self) -> Result<(), Memory>
+        ensures ok { OnOk result (self.new ≡ self.old + 1) }
+        ensures err { OnErr result (self.new ≡ self.old) }
+    {
+        self.negs.reserve(1)?;
+        self.heap.fresh()?;
+        self.negs.push_reserved(true);
+        Ok(())
+    }
+
+    /// The variable took part in a conflict.
+    pub(crate) fn bump(&mut self, var: Var)
+        requires { var < self.old }
+        ensures { self.new ≡ self.old }
+    {
+        self.heap.bump(var);
+    }
+
+    /// One more conflict: now and then what was bumped long ago counts less.
+    pub(crate) fn fade(&mut self)
+        ensures { self.new ≡ self.old }
+    {
+        if self.conflicts < FADES_EVERY {
+            self.conflicts += 1;
+            return;
+        }
+        self.heap.halve();
+        self.conflicts = 1;
+    }
+
+    /// The variable of this literal, which is true, is about to lose its value.
+    fn release(&mut self, lit: Lit)
+        requires { variable lit < self.old }
+        ensures { self.new ≡ self.old }
+    {
+        let var = lit.var();
+        self.negs[var.number() as usize] = lit.is_neg();
+        if !self.heap.has(var) {
+            self.heap.put(var);
+        }
+    }
+
+    /// The variables of all places but the first ones, so many, are about to lose their values.
+    pub(crate) fn release_all(&mut self, trail: &Trail, to: u32)
+        requires { trail.now.vars ≤ self.old }
+        ensures same { self.new ≡ self.old }
+        ensures is { IsAssigned trail.now }
+    {
+        for at in to..trail.len() {
+            self.release(trail.place(at).lit);
+        }
+    }
+
+    /// A variable without a value that is in the heap, of the greatest activity.
+    fn take(&mut self, trail: &Trail) -> Option<Var>
+        requires { trail.now.vars ≤ self.old }
+        ensures same { self.new ≡ self.old }
+        ensures some { IfSome result (λ var. (var < trail.now.vars) × (var < 2 ^ 31)
+            × (bit trail.now.values (2 * var) ≡ false)
+            × (bit trail.now.values (2 * var + 1) ≡ false)) }
+    {
+        for _ in 0..self.heap.vars() {
+            let var = self.heap.pop()?;
+            if var.number() < trail.vars() && is_unset(trail, var) {
+                return Some(var);
+            }
+        }
+        None
+    }
+
+    /// A variable without a value, if there is one.
+    fn pick(&mut self, trail: &Trail) -> Option<Var>
+        requires { trail.now.vars ≤ self.old }
+        ensures same { self.new ≡ self.old }
+        ensures some { IfSome result (λ var. (var < trail.now.vars) × (var < 2 ^ 31)
+            × (bit trail.now.values (2 * var) ≡ false)
+            × (bit trail.now.values (2 * var + 1) ≡ false)) }
+        ensures full { IfNone result (IsFull trail.now.vars trail.now.values) }
+    {
+        match self.take(trail) {
+            Some(var) => Some(var),
+            None => trail.unset(),
+        }
+    }
+
+    /// A literal of a variable without a value, if there is one.
+    pub(crate) fn next(&mut self, trail: &Trail) -> Option<Lit>
+        requires { trail.now.vars ≤ self.old }
+        ensures same { self.new ≡ self.old }
+        ensures below { IfSome result (λ lit. variable lit < trail.now.vars) }
+        ensures unset { IfSome result (λ lit. value_of trail.now.values lit ≡ None) }
+        ensures full { IfNone result (IsFull trail.now.vars trail.now.values) }
+    {
+        let var = self.pick(trail)?;
+        Some(Lit::new(var, self.negs[var.number() as usize]))
+    }
+}
