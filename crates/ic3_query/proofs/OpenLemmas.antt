@@ -1,5 +1,6 @@
 -- Resets as bits of a row, and a solver that is told of them under the switch of level 0.
 use Rattle.std.proofs.Common.{◌≡◌, ℕ, suc, zero, ◌+◌, ◌≤◌, ◌<◌, ◌||◌, Bool, true, false, not, Some, None, List, [], ◌∷◌, ◌++◌, length, get_or, slice_get, nat_le, nat_lt, refl, sym, ap, subst, ◌∙◌, arith}
+use Rattle.std.specs.Prelude.{Result, Ok, Err, OnOk}
 use Rattle.std.proofs.lemmas.Bool.{not-true}
 use Rattle.std.proofs.lemmas.Bool.Decides.{nat_tests}
 use Rattle.std.proofs.lemmas.List.{length-map}
@@ -150,6 +151,10 @@ says_zero n latch a b is new h =
     ∙ not-true (value row latch.lit) (sym (value_negated row latch.lit) ∙ f on)
     ∙ sym (false_is c (sym (ap reset_bit is) ∙ reset)))
     (λ row f on. value_negated row latch.lit ∙ ap not (value_even row latch.lit new.even ∙ f on false (ap reset_bit is))) h
+
+pub OnOk-map : {T E : Type 0} (answer : Result T E) (P Q : Type 0) → (P → Q) → OnOk answer P → OnOk answer Q
+OnOk-map (Ok x) P Q f h = f h
+OnOk-map (Err e) P Q f h = tt
 
 -- ---- the opened solver
 

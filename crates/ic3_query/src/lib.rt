@@ -3,6 +3,7 @@
 #![tactic(auto)]
 
 mod asked;
+mod bad;
 mod closing;
 mod cones;
 mod guard;
@@ -15,6 +16,7 @@ mod opening;
 mod proved;
 mod proving;
 mod query;
+mod question;
 mod room;
 mod seen;
 #[cfg(test)]
@@ -22,6 +24,7 @@ mod tests;
 mod under;
 
 pub use asked::Asked;
+pub use bad::ask_bad;
 pub use closing::close;
 pub use cones::Cones;
 pub use halt::Halt;
@@ -31,5 +34,5 @@ pub use levels::{extend, import, join, keep, push};
 pub use opening::{first_solver, grow, open};
 pub use proved::Proved;
 pub use proving::prove_all;
-pub use query::{ask, ask_bad, ask_known};
+pub use query::{ask, ask_known};
 pub use room::Room;

@@ -2,7 +2,7 @@ use Rattle.std.proofs.Common.{None, List, Bool, ◌∙◌, sym, subst}
 use Rattle.ic3_query.specs.Known.{all_of}
 use Rattle.ic3_query.specs.Questions.{IsBadRow}
 use Rattle.ic3_query.proofs.AnswerLemmas.{bad_refuted, bad_found, room_swapped}
-use Rattle.ic3_query.proofs.query.ask_bad_whole.Goals as goal
+use Rattle.ic3_query.proofs.bad.ask_bad_whole.Goals as goal
 
 pub returns-in-Some-clause-answer : goal.returns-in-Some-clause-answer
 returns-in-Some-clause-answer g c =

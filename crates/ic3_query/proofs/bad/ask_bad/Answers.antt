@@ -2,7 +2,7 @@ use Rattle.std.proofs.Common.{Some, ℕ, ◌∙◌, ap}
 use Rattle.ic3_query.specs.Known.{all_of}
 use Rattle.ic3_query.specs.Under.{bad_literals}
 use Rattle.ic3_query.proofs.AnswerLemmas.{bad_refuted}
-use Rattle.ic3_query.proofs.query.ask_bad.Goals as goal
+use Rattle.ic3_query.proofs.bad.ask_bad.Goals as goal
 
 pub returns-in-Some-clause-answer : goal.returns-in-Some-clause-answer
 returns-in-Some-clause-answer g c =
