@@ -1,0 +1,10 @@
+pub mod Searching
+pub mod Waiting
+pub mod Turns
+pub mod Answers
+pub mod Lowering
+pub mod Clearing
+pub mod Covering
+pub mod Putting
+pub mod Raising
+pub mod Climbing
