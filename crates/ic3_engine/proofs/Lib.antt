@@ -10,3 +10,4 @@ pub mod PutLemmas
 pub mod RaiseLemmas
 pub mod FixLemmas
 pub mod ClimbLemmas
+pub mod StartingLemmas

@@ -8,3 +8,4 @@ pub mod Covering
 pub mod Putting
 pub mod Raising
 pub mod Climbing
+pub mod Engines

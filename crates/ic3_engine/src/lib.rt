@@ -14,6 +14,7 @@ mod putting;
 mod raising;
 mod search;
 mod settling;
+mod starting;
 mod turn;
 
 pub use search::Search;
