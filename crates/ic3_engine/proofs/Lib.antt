@@ -11,3 +11,4 @@ pub mod RaiseLemmas
 pub mod FixLemmas
 pub mod ClimbLemmas
 pub mod StartingLemmas
+pub mod CloseLemmas

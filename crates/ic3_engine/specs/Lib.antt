@@ -9,3 +9,4 @@ pub mod Putting
 pub mod Raising
 pub mod Climbing
 pub mod Engines
+pub mod Found

@@ -4,17 +4,25 @@
 
 mod clearing;
 mod climbing;
+mod closing;
 mod covering;
 mod descent;
+mod engine;
 mod fixing;
+mod found;
 mod general;
 mod good;
 mod outcome;
+mod proved;
 mod putting;
 mod raising;
 mod search;
+mod seeking;
 mod settling;
 mod starting;
 mod turn;
 
+pub use engine::{Engine, prove};
+pub use found::Found;
+pub use proved::ProvedList;
 pub use search::Search;
