@@ -20,6 +20,8 @@ mod search;
 mod seeking;
 mod settling;
 mod starting;
+#[cfg(test)]
+mod tests;
 mod turn;
 
 pub use engine::{Engine, prove};
