@@ -111,6 +111,19 @@ fn engine<S: Probe>(alloc: Global, coded: &Coded) -> Result<Engine<S>, Memory>
     Ok(engine)
 }
 
+fn mark_of(found: &Found, prop: u32) -> Mark {
+    match found {
+        Found::Proved(_) => Proved,
+        Found::Fails(failure) => {
+            if failure.prop() == prop {
+                Fails
+            } else {
+                Mark::Other
+            }
+        }
+    }
+}
+
 fn outcome<S: Probe, F: Flag>(
     alloc: Global,
     coded: &Coded,
@@ -132,9 +145,7 @@ fn outcome<S: Probe, F: Flag>(
         engine.new.search.room.vals }
 {
     match prove(alloc, coded, prop, engine, meter, flag) {
-        Ok(Found::Proved(_)) => Proved,
-        Ok(Found::Fails(failure)) if failure.prop() == prop => Fails,
-        Ok(Found::Fails(_)) => Mark::Other,
+        Ok(found) => mark_of(&found, prop),
         Err(halt) => Mark::Halted(halt),
     }
 }
