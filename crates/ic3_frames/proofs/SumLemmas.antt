@@ -97,7 +97,7 @@ additions_never_fall vars clause level kept =
     sum_rises (greatest kept) (greatest (added clause level kept)) (additions_never_lower clause level kept) (clauses_over vars)
 
 -- what subsumes a part of a clause subsumes the clause
-blocked_more : (kept : List Entry) (level : ℕ) (few many : List ℕ) → is_part few many ≡ true → is_blocked kept level few ≡ true
+pub blocked_more : (kept : List Entry) (level : ℕ) (few many : List ℕ) → is_part few many ≡ true → is_blocked kept level few ≡ true
     → is_blocked kept level many ≡ true
 blocked_more [] level few many part h = absurd cc
 blocked_more (e ∷ es) level few many part h =

@@ -3,7 +3,7 @@
 ghost use Rattle.std.specs.Prelude.{◌≡◌, ◌+◌, ◌<◌, ◌≤◌, nat_eq, [], Some, length, slice_get, OnOk, OnErr, IfSome};
 ghost use Rattle.std.specs.List.{list_any};
 ghost use Rattle.std.specs.Option.{IfNone};
-ghost use Rattle.ic3_frames.specs.Levels.{Entry, HasOwnBelow, IfEntry, IsLeastFixed, added, is_blocked, moved};
+ghost use Rattle.ic3_frames.specs.Levels.{AreLevels, Entry, HasOwnBelow, IfEntry, IsLeastFixed, added, is_blocked, moved};
 
 use crate::kept::Kept;
 use crate::mark::mark_of;
@@ -47,6 +47,13 @@ impl Frames {
         ensures { result ≡ self.now.top }
     {
         self.top
+    }
+
+    /// Tells that each kept clause stands at a level from 1 to the top.
+    pub fn are_levels(&self)
+        ensures { AreLevels self.now }
+    {
+        let _kept = self.kept.len();
     }
 
     /// One more level, at which no clause stands.

@@ -1,0 +1,14 @@
+pub mod ClauseLemmas
+pub mod LevelLemmas
+pub mod StartLemmas
+pub mod KeepLemmas
+pub mod SettleLemmas
+pub mod TurnLemmas
+pub mod ClearLemmas
+pub mod CoverLemmas
+pub mod PutLemmas
+pub mod RaiseLemmas
+pub mod FixLemmas
+pub mod ClimbLemmas
+pub mod StartingLemmas
+pub mod CloseLemmas

@@ -1,0 +1,22 @@
+use Rattle.std.proofs.Common.{◌≡◌, ◌+◌, ◌-◌, ◌^◌, [], length}
+use Rattle.ja_outside.specs.Flags.{IsPolled}
+use Rattle.sat_plain.specs.Ticks.{IsLater}
+use Rattle.ic3_query.specs.Questions.{IsRoom}
+use Rattle.ic3_engine.specs.Climbing.{IsEngine}
+use Rattle.ic3_engine.specs.Searching.{HasClosed, latch_vars}
+use Rattle.ic3_engine.specs.Turns.{state}
+use Rattle.ic3_engine.proofs.climbing.run.Given as goal
+
+abbrev pub invariant-loop-failure : goal.invariant-loop-failure
+invariant-loop-failure g l = record {
+  engine : IsEngine l.coded (state l.z.known l.z.frames l.z.queue (g.S.Sat.count l.z.solver) (g.S.Sat.added l.z.solver));
+  empty : l.z.queue ≡ [];
+  closed : HasClosed l.fn.z.known l.z.known;
+  room : IsRoom l.coded.design l.z.room.row l.z.room.vals;
+  refused : l.meter.refused ≡ l.fn.meter.refused;
+  later : IsLater l.fn.meter l.meter;
+  flag : IsPolled g.F.Flag.may_rise g.F.Flag.raised l.fn.flag l.flag;
+}
+
+abbrev pub decreases-loop-failure : goal.decreases-loop-failure
+decreases-loop-failure g l = 3 ^ length (latch_vars l.coded.design) + 3 - l.z.frames.top

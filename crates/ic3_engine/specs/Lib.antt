@@ -1,0 +1,12 @@
+pub mod Searching
+pub mod Waiting
+pub mod Turns
+pub mod Answers
+pub mod Lowering
+pub mod Clearing
+pub mod Covering
+pub mod Putting
+pub mod Raising
+pub mod Climbing
+pub mod Engines
+pub mod Found

@@ -1,0 +1,30 @@
+//! What comes of one turn of a descent.
+
+use ic3_oblig::Obligation;
+use local_stim::LocalFailure;
+
+#[derive(Drop)]
+pub(crate) enum Turn {
+    /// The cube is blocked.
+    Done,
+    Failed(LocalFailure),
+    /// A cube one level lower leads to it, and is to be blocked first.
+    Lower(Obligation),
+}
+
+/// What a step that breaks the property gives.
+#[derive(Drop)]
+pub(crate) enum First {
+    Failed(LocalFailure),
+    Waits(Obligation),
+}
+
+/// What comes of one round at the top.
+#[derive(Drop)]
+pub(crate) enum Round {
+    /// No row of the top breaks the property.
+    Covered,
+    Failed(LocalFailure),
+    /// One cube of rows that do, and all that leads to it, is blocked.
+    Blocked,
+}
