@@ -76,7 +76,7 @@ all_lead_back t p v clause lifted chain step constrained held later only leads s
     } in
     subst (λ r. Leads t p r (input_row t.circuit v ∷ chain)) (sym (only s out))
     (leads_back t p (latch_row t.circuit v) (input_row t.circuit v) v chain step constrained held
-        (leads (next_state t.circuit v) next))
+    (leads (next_state t.circuit v) next))
 
 pub all_lead_last : (t : Problem) (p : ℕ) (v : List Bool) (lifted : List ℕ)
     → IsValuation t.circuit (latch_row t.circuit v) (input_row t.circuit v) v → MeetsConstraints t.circuit v

@@ -22,7 +22,7 @@ of-requires-clause-rows c =
     let widths = run_widths (circuit t.design) first c.args.chain.now _ leads.runs in
     let same = ap (λ (m : Trace). m.inputs) c.new-stim.ensures ∙ c.in_ok-copy.ensures in
     let inputs = length-map t.design.inputs variable
-        ∙ ap (λ (u : VerificationTask). length u.design.inputs) (sym c.task.ensures.value) in
+    ∙ ap (λ (u : VerificationTask). length u.design.inputs) (sym c.task.ensures.value) in
     subst (λ (rows : List (List Bool)). All (λ row. length row ≡ length c.task.result.now.design.inputs) rows) (sym same)
     (subst (λ (n : ℕ). All (λ (row : List Bool). length row ≡ n) c.args.chain.now) inputs widths)
 
@@ -37,8 +37,8 @@ unreachable-requires c =
     let leads = c.requires.leads first (record { width = initial.width; unmet = unmet }) in
     let fails = start_fails (problem t) c.args.prop first c.args.chain.now initial leads in
     let stim = c.new-stim.ensures
-        ∙ ap (λ (rows : List (List Bool)). record { first = first; inputs = rows }) c.in_ok-copy.ensures in
+    ∙ ap (λ (rows : List (List Bool)). record { first = first; inputs = rows }) c.in_ok-copy.ensures in
     let there = subst (λ (u : VerificationTask). IsLocalFailure (problem u) c.args.prop c.new-stim.result)
-        (sym c.task.ensures.value)
+    (sym c.task.ensures.value)
     (subst (λ (m : Trace). IsLocalFailure (problem t) c.args.prop m) (sym stim) fails) in
     rw c.in-Err-Refused.field-0-is at (c.in-Err-Refused.ensures.never there)
