@@ -1,0 +1,4 @@
+pub mod Findings
+pub mod Entries
+pub mod Reports
+pub mod Forms

@@ -1,0 +1,17 @@
+//! The report of a sign-off as a value and as text, written and read. What a report is and which text it has stands in
+//! `specs/Reports`, what the lines of a journal say in `specs/Entries`.
+#![tactic(auto)]
+
+mod line;
+mod parts;
+mod read;
+mod refusal;
+mod value;
+mod what;
+mod write;
+
+pub use parts::{PropLine, PropLines, PropStim, Sizes, Stimuli};
+pub use read::read_report;
+pub use refusal::ReportRefusal;
+pub use value::Report;
+pub use write::text_of;
