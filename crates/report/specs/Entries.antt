@@ -13,30 +13,30 @@ use Rattle.report.specs.declared.what.What.TheVariants.{Draws, DrawsNone, Import
 
 -- ---- what an event and its reply say
 
-abbrev draw_what : Reply → Option What
+abbrev pub draw_what : Reply → Option What
 draw_what (reply.Job p upto) = Some (Draws p)
 draw_what (reply.NoJob upto) = Some DrawsNone
 draw_what r = None
 
-abbrev import_what : Reply → Option What
+abbrev pub import_what : Reply → Option What
 import_what (reply.Clauses upto) = Some Imports
 import_what r = None
 
-abbrev publish_what : Reply → Option What
+abbrev pub publish_what : Reply → Option What
 publish_what (reply.Added upto) = Some Publishes
 publish_what r = None
 
-abbrev settle_what : ℕ → Mark → Reply → Option What
+abbrev pub settle_what : ℕ → Mark → Reply → Option What
 settle_what p m (reply.Settled upto) = Some (Settles p m)
 settle_what p m (reply.Had had) = Some (SettlesHad p m had)
 settle_what p m r = None
 
-abbrev cancel_what : ℕ → Reply → Option What
+abbrev pub cancel_what : ℕ → Reply → Option What
 cancel_what p reply.Cancelled = Some (Cancels p)
 cancel_what p reply.NotNow = Some (CancelsNot p)
 cancel_what p r = None
 
-abbrev give_up_what : ℕ → Reply → Option What
+abbrev pub give_up_what : ℕ → Reply → Option What
 give_up_what p reply.GaveUp = Some (GivesUp p)
 give_up_what p reply.GoOn = Some (GoesOn p)
 give_up_what p (reply.Had had) = Some (GivesUpHad p had)
@@ -60,14 +60,14 @@ added_by (Settle p m added) = added
 added_by (Cancel p) = []
 added_by (GiveUp p) = []
 
--- the reply has this number of clauses, where it has one
-abbrev pub TellsCount : ℕ → Reply → Type 0
-TellsCount n (reply.Job p upto) = upto ≡ n
-TellsCount n (reply.NoJob upto) = upto ≡ n
-TellsCount n (reply.Clauses upto) = upto ≡ n
-TellsCount n (reply.Added upto) = upto ≡ n
-TellsCount n (reply.Settled upto) = upto ≡ n
-TellsCount n r = ⊤
+-- the number of clauses behind the event, before which n stood; a reply that does not tell it leaves it so
+abbrev pub count_behind : ℕ → Reply → ℕ
+count_behind n (reply.Job p upto) = upto
+count_behind n (reply.NoJob upto) = upto
+count_behind n (reply.Clauses upto) = upto
+count_behind n (reply.Added upto) = upto
+count_behind n (reply.Settled upto) = upto
+count_behind n r = n
 
 -- ---- what is said
 
@@ -117,28 +117,50 @@ mark_words Fails = codes "fails"
 mark_words (Budget n) = codes "unknown budget " ++ decimal n
 mark_words Cancelled = codes "unknown cancelled"
 
+-- the property, if one is named
+abbrev pub property_words : Option ℕ → List ℕ
+property_words None = []
+property_words (Some p) = property_word p
+
+-- what stands in front of the property
+abbrev pub what_head : What → List ℕ
+what_head (Draws p) = codes "draw "
+what_head DrawsNone = codes "draw none"
+what_head Imports = codes "import"
+what_head Publishes = codes "publish"
+what_head (Settles p m) = codes "settle "
+what_head (SettlesHad p m had) = codes "settle "
+what_head (Cancels p) = codes "cancel "
+what_head (CancelsNot p) = codes "cancel "
+what_head (GivesUp p) = codes "giveup "
+what_head (GoesOn p) = codes "giveup "
+what_head (GivesUpHad p had) = codes "giveup "
+
+-- what stands behind it
+abbrev pub what_tail : What → List ℕ
+what_tail (Draws p) = []
+what_tail DrawsNone = []
+what_tail Imports = []
+what_tail Publishes = []
+what_tail (Settles p m) = 32 ∷ mark_words m
+what_tail (SettlesHad p m had) = 32 ∷ mark_words m ++ codes " had " ++ mark_words had
+what_tail (Cancels p) = codes " yes"
+what_tail (CancelsNot p) = codes " no"
+what_tail (GivesUp p) = codes " yes"
+what_tail (GoesOn p) = codes " goon"
+what_tail (GivesUpHad p had) = codes " had " ++ mark_words had
+
 abbrev pub what_words : What → List ℕ
-what_words (Draws p) = codes "draw " ++ property_word p
-what_words DrawsNone = codes "draw none"
-what_words Imports = codes "import"
-what_words Publishes = codes "publish"
-what_words (Settles p m) = codes "settle " ++ property_word p ++ 32 ∷ mark_words m
-what_words (SettlesHad p m had) = codes "settle " ++ property_word p ++ 32 ∷ mark_words m ++ codes " had " ++ mark_words had
-what_words (Cancels p) = codes "cancel " ++ property_word p ++ codes " yes"
-what_words (CancelsNot p) = codes "cancel " ++ property_word p ++ codes " no"
-what_words (GivesUp p) = codes "giveup " ++ property_word p ++ codes " yes"
-what_words (GoesOn p) = codes "giveup " ++ property_word p ++ codes " goon"
-what_words (GivesUpHad p had) = codes "giveup " ++ property_word p ++ codes " had " ++ mark_words had
+what_words w = what_head w ++ property_words (property_of w) ++ what_tail w
 
 -- the words of an entry, if its event and reply say something
 abbrev pub said_words : Option What → List ℕ
 said_words None = []
 said_words (Some w) = what_words w
 
--- the seat, what it asked and got, and the number of clauses behind the entry, before which n stood
-abbrev pub entry_words : ℕ → Entry → List ℕ
-entry_words n e =
-    decimal e.seat ++ 32 ∷ said_words (what_of e.event e.reply) ++ codes " at " ++ decimal (n + length (added_by e.event))
+-- the seat, what it asked and got, and the number of clauses behind the entry
+abbrev pub entry_words : Entry → ℕ → List ℕ
+entry_words e upto = decimal e.seat ++ 32 ∷ said_words (what_of e.event e.reply) ++ codes " at " ++ decimal upto
 
 -- ---- entries that a journal may have
 
@@ -147,7 +169,7 @@ pub record IsAnswered (props n : ℕ) (e : Entry) : Type 0 where
   pub what : What
   pub says : what_of e.event e.reply ≡ Some what
   pub within : IfSome (property_of what) (λ p. p < props)
-  pub count : TellsCount (n + length (added_by e.event)) e.reply
+  pub count : count_behind n e.reply ≡ n + length (added_by e.event)
   pub appends : may_append what ≡ false → added_by e.event ≡ []
 
 -- each entry is answered, where n clauses stood before the first

@@ -54,11 +54,14 @@ pub record IsReport (r : Findings) : Type 0 where
 abbrev pub line_of : List ℕ → List ℕ
 line_of words = words ++ 10 ∷ []
 
--- the sizes, each behind a space
+-- a number behind a space
+abbrev pub spaced : ℕ → List ℕ
+spaced n = 32 ∷ decimal n
+
+-- the sizes in the order of the header
 abbrev pub sizes_words : Sizes → List ℕ
 sizes_words s =
-    decimal s.vars ++ 32 ∷ decimal s.inputs ++ 32 ∷ decimal s.latches ++ 32 ∷ decimal s.gates ++ 32 ∷ decimal s.props
-    ++ 32 ∷ decimal s.constraints
+    spaced s.vars ++ spaced s.inputs ++ spaced s.latches ++ spaced s.gates ++ spaced s.props ++ spaced s.constraints
 
 abbrev pub expectation_word : Bool → List ℕ
 expectation_word true = codes "hold"
@@ -76,7 +79,7 @@ prop_lines p (l ∷ ls) = line_of (prop_words p l) ++ prop_lines (p + 1) ls
 -- the literals, one space between two
 abbrev pub clause_words : List ℕ → List ℕ
 clause_words [] = []
-clause_words (l ∷ ls) = decimal l ++ flat_map (λ k. 32 ∷ decimal k) ls
+clause_words (l ∷ ls) = decimal l ++ flat_map spaced ls
 
 -- a line that names the property, and the stimulus as replays read it
 abbrev pub stimulus_lines : PropStim → List ℕ
@@ -86,13 +89,17 @@ abbrev pub joined_words : Bool → List ℕ
 joined_words true = codes "joined yes"
 joined_words false = codes "joined no"
 
+-- a property behind a space
+abbrev pub member_words : ℕ → List ℕ
+member_words p = 32 ∷ property_word p
+
 abbrev pub set_words : List ℕ → List ℕ
-set_words set = codes "set" ++ flat_map (λ p. 32 ∷ property_word p) set
+set_words set = codes "set" ++ flat_map member_words set
 
 -- the lines of these entries, where n clauses stood before the first
 abbrev pub entry_lines : ℕ → List Entry → List ℕ
 entry_lines n [] = []
-entry_lines n (e ∷ es) = line_of (entry_words n e) ++ entry_lines (n + length (added_by e.event)) es
+entry_lines n (e ∷ es) = line_of (entry_words e (n + length (added_by e.event))) ++ entry_lines (n + length (added_by e.event)) es
 
 -- the journal, where it is shown
 abbrev pub journal_text : Bool → List Entry → List ℕ
@@ -102,7 +109,7 @@ journal_text false journal = []
 -- the sizes, a line for each property, the clauses, the stimuli, whether all are joined, the set, and the journal
 abbrev pub report_text : Findings → List ℕ
 report_text r =
-    line_of (codes "jasign 1") ++ line_of (codes "design " ++ sizes_words r.sizes) ++ prop_lines 0 r.lines
+    line_of (codes "jasign 1") ++ line_of (codes "design" ++ sizes_words r.sizes) ++ prop_lines 0 r.lines
     ++ line_of (codes "clauses " ++ decimal (length r.clauses)) ++ flat_map (λ c. line_of (clause_words c)) r.clauses
     ++ flat_map stimulus_lines r.stimuli ++ line_of (joined_words r.joined) ++ line_of (set_words r.set)
     ++ journal_text r.shown r.journal ++ line_of (codes "end")

@@ -8,7 +8,10 @@ mod read;
 mod refusal;
 mod value;
 mod what;
+mod words;
 mod write;
+mod write_journal;
+mod write_stimuli;
 
 pub use parts::{PropLine, PropLines, PropStim, Sizes, Stimuli};
 pub use read::read_report;
