@@ -138,38 +138,35 @@ module _ {X Y : Type 0} (F : Form X) (G : X → Form Y) where
 
 -- ---- one line
 
--- words in one line, that are read as they are written
-pub record IsRead {X : Type 0} (Fits : X → Type 0) (words : X → List ℕ) (decode : List ℕ → Option X) : Type 0 where
+-- words in one line, which tell their value
+pub record IsWords {X : Type 0} (Fits : X → Type 0) (words : X → List ℕ) : Type 0 where
   pub one_line : (x : X) → Fits x → IsOneLine (words x)
-  pub takes : (line : List ℕ) (x : X) → decode line ≡ Some x → Fits x × (line ≡ words x)
-  pub again : (x : X) → Fits x → decode (words x) ≡ Some x
+  pub same : (x y : X) → Fits x → Fits y → words x ≡ words y → x ≡ y
 
-module _ {X : Type 0} (Fits : X → Type 0) (words : X → List ℕ) (decode : List ℕ → Option X) where
-  pub line_sound : IsRead Fits words decode → HasSome (line_form Fits words) → IsSound (line_form Fits words)
-  line_sound read some =
+module _ {X : Type 0} (Fits : X → Type 0) (words : X → List ℕ) where
+  pub line_sound : IsWords Fits words → HasSome (line_form Fits words) → IsSound (line_form Fits words)
+  line_sound are some =
       record {
         one = λ x a y b fx fy e.
           let lines : words x ++ 10 ∷ a ≡ words y ++ 10 ∷ b = sym (append_assoc (words x) (10 ∷ []) a) ∙ e ∙ append_assoc (words y) (10 ∷ []) b in
-          let same = line_one (words x) (words y) a b (read.one_line x fx) (read.one_line y fy) lines in
-          (same_Some x y (sym (read.again x fx) ∙ ap decode same.0 ∙ read.again y fy), same.1);
+          let parts = line_one (words x) (words y) a b (are.one_line x fx) (are.one_line y fy) lines in
+          (are.same x y fx fy parts.0, parts.1);
         some = some;
         lines = λ x fits. inr (words x, refl);
       }
 
-  pub line_taken : IsRead Fits words decode → (bytes line rest : List ℕ) (x : X) → line_at bytes ≡ Some (line, rest) → decode line ≡ Some x
-      → Takes (line_form Fits words) bytes x rest
-  line_taken read bytes line rest x cut found =
-      let t = read.takes line x found in
+  pub line_taken : (bytes line rest : List ℕ) (x : X) → line_at bytes ≡ Some (line, rest) → Fits x → line ≡ words x → Takes (line_form Fits words) bytes x rest
+  line_taken bytes line rest x cut fits is =
       let parts = (line_takes bytes (line, rest) cut).parts in
-      record { fits = t.0; parts = parts ∙ ap (λ (v : List ℕ). v ++ 10 ∷ rest) t.1 ∙ sym (append_assoc (words x) (10 ∷ []) rest) }
+      record { fits = fits; parts = parts ∙ ap (λ (v : List ℕ). v ++ 10 ∷ rest) is ∙ sym (append_assoc (words x) (10 ∷ []) rest) }
 
   -- the line at the front is the words
-  cut_again : IsRead Fits words decode → (bytes : List ℕ) (x : X) (rest : List ℕ) → Takes (line_form Fits words) bytes x rest → line_at bytes ≡ Some (words x, rest)
-  cut_again read bytes x rest t = ap line_at (t.parts ∙ append_assoc (words x) (10 ∷ []) rest) ∙ line_again (words x) rest (read.one_line x t.fits)
+  cut_again : IsWords Fits words → (bytes : List ℕ) (x : X) (rest : List ℕ) → Takes (line_form Fits words) bytes x rest → line_at bytes ≡ Some (words x, rest)
+  cut_again are bytes x rest t = ap line_at (t.parts ∙ append_assoc (words x) (10 ∷ []) rest) ∙ line_again (words x) rest (are.one_line x t.fits)
 
-  stops_here : IsRead Fits words decode → HasSome (line_form Fits words) → (bytes : List ℕ) → TakesNone (line_form Fits words) bytes
+  stops_here : IsWords Fits words → HasSome (line_form Fits words) → (bytes : List ℕ) → TakesNone (line_form Fits words) bytes
       → Stops (line_form Fits words) bytes (length bytes)
-  stops_here read some bytes none =
+  stops_here are some bytes none =
       record {
         front = [];
         rest = bytes;
@@ -179,21 +176,48 @@ module _ {X : Type 0} (Fits : X → Type 0) (words : X → List ℕ) (decode : L
         begins = record { value = some.0; rest = words some.0 ++ 10 ∷ []; fits = some.1; text = refl };
         no_more = λ line after behind one e x rest t.
           let here : line_at (line ++ 10 ∷ behind) ≡ Some (line, behind) = line_again line behind one in
-          let same = some_pair_parts line (words x) behind rest (sym here ∙ cut_again read (line ++ 10 ∷ behind) x rest t) in
-          none x after (record { fits = t.fits; parts = e ∙ ap (λ (v : List ℕ). v ++ 10 ∷ after) same.0 ∙ sym (append_assoc (words x) (10 ∷ []) after) });
+          let parts = some_pair_parts line (words x) behind rest (sym here ∙ cut_again are (line ++ 10 ∷ behind) x rest t) in
+          none x after (record { fits = t.fits; parts = e ∙ ap (λ (v : List ℕ). v ++ 10 ∷ after) parts.0 ∙ sym (append_assoc (words x) (10 ∷ []) after) });
         none = none;
       }
 
   -- no LF follows
-  pub no_line : IsRead Fits words decode → HasSome (line_form Fits words) → (bytes : List ℕ) → line_at bytes ≡ None → Stops (line_form Fits words) bytes (length bytes)
-  no_line read some bytes missing =
-      stops_here read some bytes (λ x rest t. let e : None ≡ Some (words x, rest) = sym missing ∙ cut_again read bytes x rest t in absurd cc)
+  pub no_line : IsWords Fits words → HasSome (line_form Fits words) → (bytes : List ℕ) → line_at bytes ≡ None → Stops (line_form Fits words) bytes (length bytes)
+  no_line are some bytes missing =
+      stops_here are some bytes (λ x rest t. let e : None ≡ Some (words x, rest) = sym missing ∙ cut_again are bytes x rest t in absurd cc)
 
   -- the line is in another form
-  pub other_line : IsRead Fits words decode → HasSome (line_form Fits words) → (bytes line rest : List ℕ) → line_at bytes ≡ Some (line, rest) → decode line ≡ None
+  pub other_line : IsWords Fits words → HasSome (line_form Fits words) → (bytes line rest : List ℕ) → line_at bytes ≡ Some (line, rest)
+      → ((x : X) → Fits x → line ≡ words x → ⊥) → Stops (line_form Fits words) bytes (length bytes)
+  other_line are some bytes line rest cut other =
+      stops_here are some bytes (λ x after t. other x t.fits (some_pair_parts line (words x) rest after (sym cut ∙ cut_again are bytes x after t)).0)
+
+-- ---- one line that is read whole
+
+-- words in one line, that are read as they are written
+pub record IsRead {X : Type 0} (Fits : X → Type 0) (words : X → List ℕ) (decode : List ℕ → Option X) : Type 0 where
+  pub one_line : (x : X) → Fits x → IsOneLine (words x)
+  pub takes : (line : List ℕ) (x : X) → decode line ≡ Some x → Fits x × (line ≡ words x)
+  pub again : (x : X) → Fits x → decode (words x) ≡ Some x
+
+module _ {X : Type 0} {Fits : X → Type 0} {words : X → List ℕ} {decode : List ℕ → Option X} (read : IsRead Fits words decode) where
+  pub read_words : IsWords Fits words
+  read_words = record {
+    one_line = read.one_line;
+    same = λ x y fx fy e. same_Some x y (sym (read.again x fx) ∙ ap decode e ∙ read.again y fy);
+  }
+
+  pub read_taken : (bytes line rest : List ℕ) (x : X) → line_at bytes ≡ Some (line, rest) → decode line ≡ Some x → Takes (line_form Fits words) bytes x rest
+  read_taken bytes line rest x cut found = let t = read.takes line x found in line_taken Fits words bytes line rest x cut t.0 t.1
+
+  pub read_missing : HasSome (line_form Fits words) → (bytes : List ℕ) → line_at bytes ≡ None → Stops (line_form Fits words) bytes (length bytes)
+  read_missing some bytes missing = no_line Fits words read_words some bytes missing
+
+  not_written : (line : List ℕ) → decode line ≡ None → (x : X) → Fits x → line ≡ words x → ⊥
+  not_written line none x fits e =
+      let found : None ≡ Some x = sym none ∙ ap decode e ∙ read.again x fits in
+      absurd cc
+
+  pub read_other : HasSome (line_form Fits words) → (bytes line rest : List ℕ) → line_at bytes ≡ Some (line, rest) → decode line ≡ None
       → Stops (line_form Fits words) bytes (length bytes)
-  other_line read some bytes line rest cut other =
-      stops_here read some bytes (λ x after t.
-        let same = some_pair_parts line (words x) rest after (sym cut ∙ cut_again read bytes x after t) in
-        let e : None ≡ Some x = sym other ∙ ap decode same.0 ∙ read.again x t.fits in
-        absurd cc)
+  read_other some bytes line rest cut none = other_line Fits words read_words some bytes line rest cut (not_written line none)

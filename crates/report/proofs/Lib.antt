@@ -1,2 +1,5 @@
 pub mod FormLemmas
 pub mod WriteLemmas
+pub mod TokenLemmas
+pub mod DecodeLemmas
+pub mod SectionLemmas

@@ -2,10 +2,13 @@
 //! `specs/Reports`, what the lines of a journal say in `specs/Entries`.
 #![tactic(auto)]
 
+mod decode;
 mod line;
 mod parts;
 mod read;
 mod refusal;
+mod take;
+mod tokens;
 mod value;
 mod what;
 mod words;
