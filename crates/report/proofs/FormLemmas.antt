@@ -4,7 +4,10 @@ use Rattle.std.proofs.lemmas.Option.{same_Some, some_pair_parts}
 use Rattle.ja_text.specs.Lines.{IsOneLine, line_at}
 use Rattle.ja_text.proofs.LineLemmas.{line_takes, line_again, line_one, line_none, line_missing}
 use Rattle.report.specs.Reports.{AreLines}
-use Rattle.report.specs.Forms.{Form, Takes, TakesNone, Begins, Stops, line_form, then}
+use Rattle.ja_base.specs.declared.memory.OrMemory.{OrMemory}
+use Rattle.ja_base.specs.declared.memory.OrMemory.TheVariants.{Refused, Memory}
+use Rattle.report.specs.declared.line.BadLine.{BadLine}
+use Rattle.report.specs.Forms.{Form, Takes, TakesNone, Begins, Stops, Fails, line_form, then}
 
 -- no bytes begin with the texts of two values
 abbrev pub IsOne : {X : Type 0} → Form X → Type 0
@@ -221,3 +224,11 @@ module _ {X : Type 0} {Fits : X → Type 0} {words : X → List ℕ} {decode : L
   pub read_other : HasSome (line_form Fits words) → (bytes line rest : List ℕ) → line_at bytes ≡ Some (line, rest) → decode line ≡ None
       → Stops (line_form Fits words) bytes (length bytes)
   read_other some bytes line rest cut none = other_line Fits words read_words some bytes line rest cut (not_written line none)
+
+-- ---- as functions end
+
+-- where one reading stops another does
+pub fails : {X Y : Type 0} (F : Form X) (G : Form Y) (bytes rest : List ℕ) (e : OrMemory BadLine) → Fails F rest e
+    → ((left : ℕ) → Stops F rest left → Stops G bytes left) → Fails G bytes e
+fails F G bytes rest (Refused bad) h step = step bad.left h
+fails F G bytes rest Memory h step = tt

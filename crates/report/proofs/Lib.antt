@@ -1,4 +1,5 @@
 pub mod FormLemmas
+pub mod TimesLemmas
 pub mod WriteLemmas
 pub mod TokenLemmas
 pub mod DecodeLemmas

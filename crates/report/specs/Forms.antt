@@ -40,11 +40,15 @@ pub record Stops {X : Type 0} (F : Form X) (bytes : List ℕ) (left : ℕ) : Typ
   pub no_more : (line after behind : List ℕ) → IsOneLine line → rest ≡ line ++ 10 ∷ after → TakesNone F (front ++ line ++ 10 ∷ behind)
   pub none : TakesNone F bytes
 
--- what was read is the text of a value and what follows it, or reading stops at the first line that leaves the form
+-- reading stops at the first line that leaves the form, unless memory was wanting
+abbrev pub Fails : {X : Type 0} → Form X → List ℕ → OrMemory BadLine → Type 0
+Fails F bytes (Refused bad) = Stops F bytes bad.left
+Fails F bytes Memory = ⊤
+
+-- what was read is the text of a value and what follows it, or reading stops
 abbrev pub Reads : {T X : Type 0} → Form X → (T → X) → (T → List ℕ) → List ℕ → Result T (OrMemory BadLine) → Type 0
 Reads F value rest bytes (Ok t) = Takes F bytes (value t) (rest t)
-Reads F value rest bytes (Err (Refused bad)) = Stops F bytes bad.left
-Reads F value rest bytes (Err Memory) = ⊤
+Reads F value rest bytes (Err e) = Fails F bytes e
 
 -- ---- how forms are made
 
@@ -55,3 +59,26 @@ line_form Fits words = record { Fits = Fits; text = λ x. words x ++ 10 ∷ [] }
 -- one form, and behind it another that may depend on the value of the first
 abbrev pub then : {X Y : Type 0} → Form X → (X → Form Y) → Form (X × Y)
 then F G = record { Fits = λ p. F.Fits p.0 × (G p.0).Fits p.1; text = λ p. F.text p.0 ++ (G p.0).text p.1 }
+
+-- the texts of values one behind the other, the first in this state, each other in the state that the one before leads to
+abbrev pub texts_from : {S X : Type 0} → (S → Form X) → (S → X → S) → S → List X → List ℕ
+texts_from F next s [] = []
+texts_from F next s (x ∷ xs) = (F s).text x ++ texts_from F next (next s x) xs
+
+-- each of these values fits in its state
+abbrev pub FitFrom : {S X : Type 0} → (S → Form X) → (S → X → S) → S → List X → Type 0
+FitFrom F next s [] = ⊤
+FitFrom F next s (x ∷ xs) = (F s).Fits x × FitFrom F next (next s x) xs
+
+-- so many values that fit in their states
+pub record FitTimes {S X : Type 0} (F : S → Form X) (next : S → X → S) (n : ℕ) (s : S) (xs : List X) : Type 0 where
+  pub as_many : length xs ≡ n
+  pub each : FitFrom F next s xs
+
+-- so many texts one behind the other
+abbrev pub times : {S X : Type 0} → (S → Form X) → (S → X → S) → ℕ → S → Form (List X)
+times F next n s = record { Fits = FitTimes F next n s; text = texts_from F next s }
+
+-- nothing
+abbrev pub nothing : Form ⊤
+nothing = record { Fits = λ _. ⊤; text = λ _. [] }

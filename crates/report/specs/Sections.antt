@@ -11,7 +11,7 @@ use Rattle.report.specs.declared.parts.Sizes.{Sizes}
 use Rattle.report.specs.Entries.{IsSmallMark, property_word}
 use Rattle.report.specs.Findings.{failing_from, marks_of}
 use Rattle.report.specs.Reports.{IsReportClause, HasWidths, AreSmallSizes, sizes_words, prop_words, prop_lines, clause_words, stimulus_lines, joined_words, set_words, line_of}
-use Rattle.report.specs.Forms.{Form, line_form, then}
+use Rattle.report.specs.Forms.{Form, line_form, then, times, nothing}
 
 -- these words, in a line
 abbrev pub words_form : List ℕ → Form ⊤
@@ -31,13 +31,9 @@ sizes_form = line_form AreSmallSizes (λ s. codes "design" ++ sizes_words s)
 abbrev pub prop_form : ℕ → Form PropLine
 prop_form p = line_form (λ l. IsSmallMark l.mark) (prop_words p)
 
--- so many lines, the first of property p
-pub record ArePropLines (count : ℕ) (lines : List PropLine) : Type 0 where
-  pub as_many : length lines ≡ count
-  pub small : AllByRecursion (λ (l : PropLine). IsSmallMark l.mark) lines
-
+-- so many lines of properties from p on
 abbrev pub props_form : ℕ → ℕ → Form (List PropLine)
-props_form count p = record { Fits = ArePropLines count; text = prop_lines p }
+props_form count p = times prop_form (λ q _. q + 1) count p
 
 -- a clause whose literals a reader holds
 pub record IsHeldClause (vars : ℕ) (clause : List ℕ) : Type 0 where
@@ -47,14 +43,9 @@ pub record IsHeldClause (vars : ℕ) (clause : List ℕ) : Type 0 where
 abbrev pub clause_form : ℕ → Form (List ℕ)
 clause_form vars = line_form (IsHeldClause vars) clause_words
 
--- so many clauses
-pub record AreHeldClauses (vars count : ℕ) (clauses : List (List ℕ)) : Type 0 where
-  pub as_many : length clauses ≡ count
-  pub each : AllByRecursion (IsHeldClause vars) clauses
-
 -- so many lines of clauses
 abbrev pub clause_lines_form : ℕ → ℕ → Form (List (List ℕ))
-clause_lines_form vars count = record { Fits = AreHeldClauses vars count; text = flat_map (λ c. line_of (clause_words c)) }
+clause_lines_form vars count = times {S = ⊤} (λ _. clause_form vars) (λ s _. s) count tt
 
 -- the number of clauses, and the clauses
 abbrev pub clauses_form : ℕ → Form (ℕ × List (List ℕ))

@@ -6,6 +6,7 @@ mod decode;
 mod line;
 mod parts;
 mod read;
+mod read_props;
 mod refusal;
 mod take;
 mod tokens;
