@@ -3,4 +3,5 @@ pub mod TimesLemmas
 pub mod WriteLemmas
 pub mod TokenLemmas
 pub mod DecodeLemmas
+pub mod NumbersLemmas
 pub mod SectionLemmas

@@ -1,15 +1,18 @@
 -- The forms of a report have texts, and are whole lines.
 use Rattle.std.proofs.Common.{◌≡◌, ℕ, ◌+◌, ◌<◌, ◌≤◌, ◌^◌, Bool, true, false, List, [], ◌∷◌, ◌++◌, length, replicate, Some, None, refl, sym, ap, subst, ◌∙◌, arith}
+use Rattle.std.specs.Prelude.{⊤, codes, decimal}
+use Rattle.std.specs.List.Sorted.{IsStrictlyIncreasing}
 use Rattle.std.proofs.lemmas.List.{length-replicate}
 use Rattle.store_core.specs.declared.mark.Mark.TheVariants.{Proved}
 use Rattle.report.specs.declared.parts.PropLine.{PropLine}
 use Rattle.report.specs.Entries.{IsSmallMark}
-use Rattle.report.specs.Reports.{prop_words}
+use Rattle.report.specs.Reports.{prop_words, clause_words}
 use Rattle.report.specs.Forms.{Form, Takes, Stops}
-use Rattle.report.specs.Sections.{words_form, count_form, sizes_form, prop_form, props_form, row_form, next_row_form, joined_form, journal_form}
+use Rattle.report.specs.Sections.{words_form, count_form, sizes_form, prop_form, props_form, IsHeldClause, clause_form, clause_lines_form, set_form, row_form, next_row_form, joined_form, journal_form}
 use Rattle.report.proofs.FormLemmas.{HasSome, IsSound, line_sound, read_words}
 use Rattle.report.proofs.TimesLemmas.{IsMet, state_behind, times_more, times_ends, times_sound}
-use Rattle.report.proofs.DecodeLemmas.{prop_read}
+use Rattle.report.proofs.DecodeLemmas.{IsOneLine-tested, prop_read, count_read}
+use Rattle.report.proofs.NumbersLemmas.{clause_are_words}
 
 -- ---- some value of each line
 
@@ -68,3 +71,37 @@ props_ends count bytes i ls rest left small less t stop =
 
 pub props_sound : (count : ℕ) → count < 2 ^ 32 → IsSound (props_form count 0)
 props_sound count small = times_sound prop_form (λ q _. q + 1) (λ n q. q + n ≤ 4294967296) props_met count 0 (omega (arith, small))
+
+-- ---- clauses and sets
+
+nothing_ascends : IsStrictlyIncreasing []
+nothing_ascends k less = absurd (omega (arith, less))
+
+pub some_clause : (vars : ℕ) → HasSome (clause_form vars)
+some_clause vars = ([], record { form = record { ascends = nothing_ascends; within = tt }; small = tt })
+
+pub some_set : (props : ℕ) → HasSome (set_form props)
+some_set props = ([], record { ascends = nothing_ascends; within = tt })
+
+clauses_met : (vars : ℕ) → IsMet {S = ⊤} (λ _. clause_form vars) (λ s _. s) (λ _ _. ⊤)
+clauses_met vars = record {
+  sound = λ n s m. line_sound (IsHeldClause vars) clause_words (clause_are_words vars) (some_clause vars);
+  goes_on = λ n s x m fits. tt;
+}
+
+pub clauses_more : (vars : ℕ) (bytes : List ℕ) (i : ℕ) (cs : List (List ℕ)) (rest clause after : List ℕ) → Takes (clause_lines_form vars i) bytes cs rest
+    → Takes (clause_form vars) rest clause after → Takes (clause_lines_form vars (i + 1)) bytes (cs ++ clause ∷ []) after
+clauses_more vars bytes i cs rest clause after t u = times_more {S = ⊤} (λ _. clause_form vars) (λ s _. s) tt bytes i cs rest clause after t u
+
+pub clauses_end : (vars count : ℕ) (bytes : List ℕ) (i : ℕ) (cs : List (List ℕ)) (rest : List ℕ) (left : ℕ) → i < count
+    → Takes (clause_lines_form vars i) bytes cs rest → Stops (clause_form vars) rest left → Stops (clause_lines_form vars count) bytes left
+clauses_end vars count bytes i cs rest left less t stop =
+    times_ends {S = ⊤} (λ _. clause_form vars) (λ s _. s) (λ _ _. ⊤) (clauses_met vars) count tt bytes i cs rest left tt less t stop
+
+pub clauses_sound : (vars count : ℕ) → IsSound (clause_lines_form vars count)
+clauses_sound vars count = times_sound {S = ⊤} (λ _. clause_form vars) (λ s _. s) (λ _ _. ⊤) (clauses_met vars) count tt tt
+
+pub clause_count_sound : IsSound (count_form (codes "clauses "))
+clause_count_sound =
+    line_sound (λ n. n < 2 ^ 32) (λ n. codes "clauses " ++ decimal n) (read_words (count_read (codes "clauses ") (IsOneLine-tested (codes "clauses ") refl)))
+    (some_count (codes "clauses "))

@@ -4,4 +4,5 @@ pub mod Reports
 pub mod Forms
 pub mod Tokens
 pub mod Lines
+pub mod Numbers
 pub mod Sections
