@@ -53,6 +53,21 @@ same_stops F G there back bytes left s =
       none = part_taken G F back bytes s.none;
     }
 
+-- and one is sound as the other is, where each value comes back
+pub same_sound : {X Y : Type 0} (F : Form X) (G : Form Y) (to : X → Y) (there : IsPart F G) (back : IsPart G F)
+    → ((y : Y) (fits : G.Fits y) → to (back y fits).0 ≡ y) → IsSound F → IsSound G
+same_sound F G to there back same sound =
+    record {
+      one = λ y a z b fy fz e.
+        let v = back y fy in
+        let w = back z fz in
+        let text : F.text v.0 ++ a ≡ F.text w.0 ++ b = ap (λ (t : List ℕ). t ++ a) v.2 ∙ e ∙ ap (λ (t : List ℕ). t ++ b) (sym w.2) in
+        let found = sound.one v.0 a w.0 b v.1 w.1 text in
+        (sym (same y fy) ∙ ap to found.0 ∙ same z fz, found.1);
+      some = (let y = there sound.some.0 sound.some.1 in (y.0, y.1));
+      lines = λ y fits. let v = back y fits in subst AreLines v.2 (sound.lines v.0 v.1);
+    }
+
 -- ---- one form behind another
 
 module _ {X Y : Type 0} (F : Form X) (G : X → Form Y) where

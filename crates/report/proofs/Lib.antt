@@ -5,3 +5,4 @@ pub mod TokenLemmas
 pub mod DecodeLemmas
 pub mod NumbersLemmas
 pub mod SectionLemmas
+pub mod StimulusLemmas

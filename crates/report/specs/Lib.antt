@@ -6,3 +6,4 @@ pub mod Tokens
 pub mod Lines
 pub mod Numbers
 pub mod Sections
+pub mod JournalLines

@@ -1,5 +1,5 @@
 -- The forms of which the text of a report is made.
-use Rattle.std.specs.Prelude.{◌≡◌, ℕ, zero, suc, ◌+◌, ◌<◌, ◌≤◌, ◌^◌, ⊤, Bool, List, [], ◌∷◌, ◌++◌, length, map, flat_map, codes, decimal, Option, Some, None, IfSome}
+use Rattle.std.specs.Prelude.{◌≡◌, ℕ, zero, suc, ◌+◌, ◌<◌, ◌≤◌, ◌^◌, ⊤, Bool, true, false, List, [], ◌∷◌, ◌++◌, length, map, flat_map, codes, decimal, Option, Some, None, IfSome, Result, Ok, Err}
 use Rattle.std.specs.List.{AllByRecursion}
 use Rattle.std.specs.List.Sorted.{IsStrictlyIncreasing}
 use Rattle.ja_base.specs.Runs.{Trace}
@@ -11,7 +11,9 @@ use Rattle.report.specs.declared.parts.Sizes.{Sizes}
 use Rattle.report.specs.Entries.{IsSmallMark, property_word}
 use Rattle.report.specs.Findings.{failing_from, marks_of}
 use Rattle.report.specs.Reports.{IsReportClause, HasWidths, AreSmallSizes, sizes_words, prop_words, prop_lines, clause_words, stimulus_lines, joined_words, set_words, line_of}
-use Rattle.report.specs.Forms.{Form, line_form, then, times, nothing}
+use Rattle.ja_base.specs.declared.memory.OrMemory.{OrMemory}
+use Rattle.report.specs.declared.line.BadLine.{BadLine}
+use Rattle.report.specs.Forms.{Form, Takes, Fails, line_form, then, times}
 
 -- these words, in a line
 abbrev pub words_form : List ℕ → Form ⊤
@@ -66,17 +68,41 @@ next_row_form width = line_form (λ next. IfSome next (λ row. length row ≡ wi
 abbrev pub rows_form : ℕ → Form (List (List Bool))
 rows_form width = record { Fits = AllByRecursion (λ row. length row ≡ width); text = λ rows. flat_map row_line rows ++ codes ".\n" }
 
+-- one or more rows, of this width
+pub record AreInputs (width : ℕ) (rows : List (List Bool)) : Type 0 where
+  pub some : 0 < length rows
+  pub widths : AllByRecursion (λ row. length row ≡ width) rows
+
+-- these rows up to a dot
+abbrev pub inputs_form : ℕ → Form (List (List Bool))
+inputs_form width = record { Fits = AreInputs width; text = λ rows. flat_map row_line rows ++ codes ".\n" }
+
 -- the names of a stimulus for property p
 abbrev pub names_form : ℕ → Form (⊤ × (⊤ × ⊤))
 names_form p = then (named_form (codes "stimulus b") p) (λ _. then (words_form (codes "1")) (λ _. named_form (codes "b") p))
 
--- the rows of a stimulus: of the latches, of the first step, and of those behind it
-abbrev pub trace_form : Sizes → Form (List Bool × (List Bool × List (List Bool)))
-trace_form s = then (row_form s.latches) (λ _. then (row_form s.inputs) (λ _. rows_form s.inputs))
-
 -- a stimulus for property p
-abbrev pub stimulus_form : Sizes → ℕ → Form ((⊤ × (⊤ × ⊤)) × (List Bool × (List Bool × List (List Bool))))
-stimulus_form s p = then (names_form p) (λ _. trace_form s)
+pub record IsStimulusOf (s : Sizes) (p : ℕ) (x : PropStim) : Type 0 where
+  pub property : x.prop ≡ p
+  pub widths : HasWidths s x
+
+abbrev pub stimulus_form : Sizes → ℕ → Form PropStim
+stimulus_form s p = record { Fits = IsStimulusOf s p; text = stimulus_lines }
+
+-- one stimulus for property p where it fails, and else none
+abbrev pub AreStimuliOf : Bool → Sizes → ℕ → List PropStim → Type 0
+AreStimuliOf false s p xs = xs ≡ []
+AreStimuliOf true s p [] = ⊥
+AreStimuliOf true s p (x ∷ []) = IsStimulusOf s p x
+AreStimuliOf true s p (x ∷ y ∷ xs) = ⊥
+
+abbrev pub where_form : Bool → Sizes → ℕ → Form (List PropStim)
+where_form fails s p = record { Fits = AreStimuliOf fails s p; text = flat_map stimulus_lines }
+
+-- what was read came to what was there before, or reading stops
+abbrev pub Adds : {X T : Type 0} → Form (List X) → List X → List X → (T → List ℕ) → List ℕ → Result T (OrMemory BadLine) → Type 0
+Adds {X} F old new rest bytes (Ok t) = (xs : List X) × Takes F bytes xs (rest t) × (new ≡ old ++ xs)
+Adds F old new rest bytes (Err e) = Fails F bytes e
 
 -- a stimulus for each property that fails, the first of these marks being the one of p
 pub record AreStimuli (s : Sizes) (p : ℕ) (marks : List Mark) (stimuli : List PropStim) : Type 0 where

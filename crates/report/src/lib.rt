@@ -3,12 +3,14 @@
 #![tactic(auto)]
 
 mod decode;
+mod decode_journal;
 mod line;
 mod parts;
 mod read;
 mod read_clauses;
 mod read_props;
 mod read_set;
+mod read_stimuli;
 mod refusal;
 mod take;
 mod tokens;

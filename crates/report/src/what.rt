@@ -126,3 +126,11 @@ pub fn property_of(what: What) -> Option<u32>
         | What::GivesUpHad(prop, _) => Some(prop),
     }
 }
+
+/// A line of the journal: which seat, what it asked and got, and the number of clauses behind the entry.
+#[derive(Clone, Copy, Debug, PartialEq, Eq)]
+pub struct Said {
+    pub seat: u32,
+    pub what: What,
+    pub upto: u32,
+}
