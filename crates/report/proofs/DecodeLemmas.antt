@@ -58,7 +58,7 @@ IsOneLine-mark Cancelled small = IsOneLine-tested (codes "unknown cancelled") re
 
 -- ---- tests
 
-ended_is : {X : Type 0} (p : X × List ℕ) (x : X) → ended p ≡ Some x → (p.0 ≡ x) × (p.1 ≡ [])
+pub ended_is : {X : Type 0} (p : X × List ℕ) (x : X) → ended p ≡ Some x → (p.0 ≡ x) × (p.1 ≡ [])
 ended_is (y, []) x e = (same_Some y x e, refl)
 ended_is (y, b ∷ bytes) x e = absurd cc
 

@@ -6,3 +6,4 @@ pub mod DecodeLemmas
 pub mod NumbersLemmas
 pub mod SectionLemmas
 pub mod StimulusLemmas
+pub mod WhatLemmas

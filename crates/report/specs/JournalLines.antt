@@ -93,3 +93,15 @@ said_of line = do
   what ← what_at rest
   count ← small_behind (codes " at ") what.1
   ended (record { seat = seat.0; what = what.0; upto = count.0 }, count.1)
+
+-- ---- what is written
+
+abbrev pub said_words : Said → List ℕ
+said_words s = decimal s.seat ++ 32 ∷ what_words s.what ++ codes " at " ++ decimal s.upto
+
+-- its numbers are those that a reader holds
+pub record IsSmallSaid (s : Said) : Type 0 where
+  pub seat : s.seat < 2 ^ 32
+  pub property : IfSome (property_of s.what) (λ p. p < 2 ^ 32)
+  pub marks : HasSmallMarks s.what
+  pub upto : s.upto < 2 ^ 32
