@@ -62,7 +62,7 @@ pub ended_is : {X : Type 0} (p : X × List ℕ) (x : X) → ended p ≡ Some x �
 ended_is (y, []) x e = (same_Some y x e, refl)
 ended_is (y, b ∷ bytes) x e = absurd cc
 
-where_is : {X : Type 0} (t : Bool) (o : Option X) (x : X) → where_true t o ≡ Some x → (t ≡ true) × (o ≡ Some x)
+pub where_is : {X : Type 0} (t : Bool) (o : Option X) (x : X) → where_true t o ≡ Some x → (t ≡ true) × (o ≡ Some x)
 where_is true o x e = (refl, e)
 where_is false o x e = absurd cc
 

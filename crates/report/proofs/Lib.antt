@@ -7,3 +7,5 @@ pub mod NumbersLemmas
 pub mod SectionLemmas
 pub mod StimulusLemmas
 pub mod WhatLemmas
+pub mod JournalLemmas
+pub mod EndLemmas

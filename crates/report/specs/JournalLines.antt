@@ -1,5 +1,5 @@
 -- The lines of a journal as they are read, and the forms of them.
-use Rattle.std.specs.Prelude.{◌≡◌, ℕ, ◌+◌, ◌-◌, ◌<◌, ◌≤◌, ◌^◌, Bool, true, false, List, [], ◌∷◌, ◌++◌, length, take, drop, codes, decimal, Option, Some, None, IfSome}
+use Rattle.std.specs.Prelude.{◌≡◌, ℕ, ◌-◌, ◌<◌, ◌^◌, ◌==◌, ◌&&◌, ◌||◌, Bool, true, not, nat_le, nat_lt, List, [], ◌∷◌, ◌++◌, length, take, drop, codes, decimal, Option, Some, None, IfSome}
 use Rattle.ja_text.specs.Lines.{space_at, word_at}
 use Rattle.store_core.specs.declared.journal.Event.{Event}
 use Rattle.store_core.specs.declared.journal.Event.TheVariants.{Draw, Import, Publish, Settle, Cancel, GiveUp}
@@ -10,9 +10,10 @@ use Rattle.store_core.specs.declared.mark.Mark.{Mark}
 use Rattle.report.specs.declared.what.Said.{Said}
 use Rattle.report.specs.declared.what.What.{What}
 use Rattle.report.specs.declared.what.What.TheVariants.{Draws, DrawsNone, Imports, Publishes, Settles, SettlesHad, Cancels, CancelsNot, GivesUp, GoesOn, GivesUpHad}
-use Rattle.report.specs.Entries.{may_append, property_of, HasSmallMarks, IsSmallEntry, IsAnswered, added_by, entry_words, what_words}
+use Rattle.report.specs.Entries.{may_append, property_of, HasSmallMarks, what_words}
+use Rattle.report.specs.Reports.{entry_lines}
 use Rattle.report.specs.Forms.{Form, line_form, times}
-use Rattle.report.specs.Lines.{ended}
+use Rattle.report.specs.Lines.{ended, where_true}
 use Rattle.report.specs.Tokens.{◌>>=◌, small_at, small_behind, mark_at}
 
 -- ---- reading
@@ -105,3 +106,92 @@ pub record IsSmallSaid (s : Said) : Type 0 where
   pub property : IfSome (property_of s.what) (λ p. p < 2 ^ 32)
   pub marks : HasSmallMarks s.what
   pub upto : s.upto < 2 ^ 32
+
+-- ---- which lines a journal may have
+
+-- the property, if one is spoken of, is below so many
+abbrev pub is_within : ℕ → Option ℕ → Bool
+is_within props None = true
+is_within props (Some p) = nat_lt p props
+
+-- The number of clauses fits between those before and all of them: it rises only where clauses may be appended, and behind the
+-- last entry it is that of all. This entry and those behind it are so many.
+abbrev pub is_counted : ℕ → ℕ → ℕ → Said → Bool
+is_counted total from left s =
+    nat_le from s.upto && nat_le s.upto total && (may_append s.what || s.upto == from) && (not (left == 1) || s.upto == total)
+
+abbrev pub is_due : ℕ → ℕ → ℕ → ℕ → Said → Bool
+is_due props total from left s = is_within props (property_of s.what) && is_counted total from left s
+
+-- what a line says, where that is due
+unfoldable pub due_of : ℕ → ℕ → ℕ → ℕ → List ℕ → Option Said
+due_of props total from left line = do
+  s ← said_of line
+  where_true (is_due props total from left s) (Some s)
+
+-- a line that is due, with numbers that a reader holds
+pub record IsDueSaid (props total from left : ℕ) (s : Said) : Type 0 where
+  pub small : IsSmallSaid s
+  pub due : is_due props total from left s ≡ true
+
+-- a line, where so many clauses of all stood before it, and it is one of so many that are left
+abbrev pub said_form : ℕ → ℕ → ℕ × ℕ → Form Said
+said_form props total d = line_form (IsDueSaid props total d.0 d.1) said_words
+
+-- what a line leads to
+abbrev pub said_next : ℕ × ℕ → Said → ℕ × ℕ
+said_next d s = (s.upto, d.1 - 1)
+
+-- so many lines
+abbrev pub saids_form : ℕ → ℕ → ℕ → Form (List Said)
+saids_form props total count = times (said_form props total) said_next count (0, count)
+
+-- ---- the entries of these lines
+
+abbrev pub event_of : What → List (List ℕ) → Event
+event_of (Draws p) added = Draw
+event_of DrawsNone added = Draw
+event_of Imports added = Import
+event_of Publishes added = Publish added
+event_of (Settles p m) added = Settle p m added
+event_of (SettlesHad p m had) added = Settle p m added
+event_of (Cancels p) added = Cancel p
+event_of (CancelsNot p) added = Cancel p
+event_of (GivesUp p) added = GiveUp p
+event_of (GoesOn p) added = GiveUp p
+event_of (GivesUpHad p had) added = GiveUp p
+
+abbrev pub reply_of : What → ℕ → Reply
+reply_of (Draws p) upto = reply.Job p upto
+reply_of DrawsNone upto = reply.NoJob upto
+reply_of Imports upto = reply.Clauses upto
+reply_of Publishes upto = reply.Added upto
+reply_of (Settles p m) upto = reply.Settled upto
+reply_of (SettlesHad p m had) upto = reply.Had had
+reply_of (Cancels p) upto = reply.Cancelled
+reply_of (CancelsNot p) upto = reply.NotNow
+reply_of (GivesUp p) upto = reply.GaveUp
+reply_of (GoesOn p) upto = reply.GoOn
+reply_of (GivesUpHad p had) upto = reply.Had had
+
+-- the clauses from one place to another
+abbrev pub between : List (List ℕ) → ℕ → ℕ → List (List ℕ)
+between clauses from upto = take (upto - from) (drop from clauses)
+
+-- the entry of a line, before which so many clauses stood
+abbrev pub entry_of : List (List ℕ) → ℕ → Said → Entry
+entry_of clauses from s =
+    record { seat = s.seat; event = event_of s.what (between clauses from s.upto); reply = reply_of s.what s.upto }
+
+abbrev pub entries_of : List (List ℕ) → ℕ → List Said → List Entry
+entries_of clauses from [] = []
+entries_of clauses from (s ∷ ss) = entry_of clauses from s ∷ entries_of clauses s.upto ss
+
+-- the entries of so many lines that fit these clauses
+pub record AreEntries (props : ℕ) (clauses : List (List ℕ)) (count : ℕ) (entries : List Entry) : Type 0 where
+  pub lines : List Said
+  pub fit : (saids_form props (length clauses) count).Fits lines
+  pub are : entries ≡ entries_of clauses 0 lines
+
+abbrev pub entries_form : ℕ → List (List ℕ) → ℕ → Form (List Entry)
+entries_form props clauses count = record { Fits = AreEntries props clauses count; text = entry_lines 0 }

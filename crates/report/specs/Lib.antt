@@ -7,3 +7,4 @@ pub mod Lines
 pub mod Numbers
 pub mod Sections
 pub mod JournalLines
+pub mod Whole

@@ -6,8 +6,9 @@ mod decode;
 mod decode_journal;
 mod line;
 mod parts;
-mod read;
 mod read_clauses;
+mod read_end;
+mod read_journal;
 mod read_props;
 mod read_set;
 mod read_stimuli;
@@ -22,7 +23,6 @@ mod write_journal;
 mod write_stimuli;
 
 pub use parts::{PropLine, PropLines, PropStim, Sizes, Stimuli};
-pub use read::read_report;
 pub use refusal::ReportRefusal;
 pub use value::Report;
 pub use write::text_of;
