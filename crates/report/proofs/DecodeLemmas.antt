@@ -40,7 +40,7 @@ IsOneLine-tested (c ∷ words) e = step (eqb c 10) refl e (IsOneLine-tested word
     step true is h others = absurd cc
     step false is h others = (eqb-false c 10 (sym is), others h)
 
-no_newlines : (text : List ℕ) → AllByRecursion IsDigit text → IsOneLine text
+pub no_newlines : (text : List ℕ) → AllByRecursion IsDigit text → IsOneLine text
 no_newlines [] h = tt
 no_newlines (d ∷ text) h = (λ e. absurd (omega (arith, e, h.0.0)), no_newlines text h.1)
 

@@ -115,7 +115,7 @@ said_sound : (props total : ℕ) (d : ℕ × ℕ) → total < 2 ^ 32 → d.0 ≤
 said_sound props total d small within =
     line_sound (IsDueSaid props total d.0 d.1) said_words (read_words (due_read props total d.0 d.1)) (some_said props total d small within)
 
-met_next : (props total n : ℕ) (d : ℕ × ℕ) (s : Said) → Met total (suc n) d → IsDueSaid props total d.0 d.1 s → Met total n (said_next d s)
+pub met_next : (props total n : ℕ) (d : ℕ × ℕ) (s : Said) → Met total (suc n) d → IsDueSaid props total d.0 d.1 s → Met total n (said_next d s)
 met_next props total n d s m h =
     let c = counts_of props total d.0 d.1 s h.due in
     record { left = omega (arith, m.left); within = c.most; done = λ e. c.last (omega (arith, m.left, e)) }
@@ -126,7 +126,7 @@ saids_met props total small = record {
   goes_on = λ n d s m fits. met_next props total n d s m fits;
 }
 
-met_first : (total count : ℕ) → (count ≡ 0 → total ≡ 0) → Met total count (0, count)
+pub met_first : (total count : ℕ) → (count ≡ 0 → total ≡ 0) → Met total count (0, count)
 met_first total count some = record { left = refl; within = omega arith; done = λ e. sym (some e) }
 
 saids_sound : (props total count : ℕ) → total < 2 ^ 32 → (count ≡ 0 → total ≡ 0) → IsSound (saids_form props total count)
@@ -152,7 +152,7 @@ between_more clauses from at clause le found added more so_far pushed =
 between_length : (clauses : List (List ℕ)) (from upto : ℕ) → from ≤ upto → upto ≤ length clauses → length (between clauses from upto) ≡ upto - from
 between_length clauses from upto rises most = omega (arith, length-take (upto - from) (drop from clauses), length-drop from clauses, rises, most)
 
-between_rest : (clauses : List (List ℕ)) (from upto : ℕ) → from ≤ upto → between clauses from upto ++ drop upto clauses ≡ drop from clauses
+pub between_rest : (clauses : List (List ℕ)) (from upto : ℕ) → from ≤ upto → between clauses from upto ++ drop upto clauses ≡ drop from clauses
 between_rest clauses from upto rises =
     let k : from + (upto - from) ≡ upto = omega (arith, rises) in
     ap (λ (v : List (List ℕ)). between clauses from upto ++ v) (sym (drop-drop (upto - from) from clauses ∙ ap (λ (n : ℕ). drop n clauses) k))
@@ -161,7 +161,7 @@ between_rest clauses from upto rises =
 -- ---- an entry and its line
 
 -- the event and the reply say what they were made of
-says_what : (w : What) (added : List (List ℕ)) (upto : ℕ) → what_of (event_of w added) (reply_of w upto) ≡ Some w
+pub says_what : (w : What) (added : List (List ℕ)) (upto : ℕ) → what_of (event_of w added) (reply_of w upto) ≡ Some w
 says_what (Draws p) added upto = refl
 says_what DrawsNone added upto = refl
 says_what Imports added upto = refl
@@ -189,7 +189,7 @@ keeps_added (GoesOn p) added none = sym (none refl)
 keeps_added (GivesUpHad p had) added none = sym (none refl)
 
 -- the reply tells the number of clauses, or leaves it
-counts_reply : (w : What) (from upto : ℕ) → (may_append w ≡ false → upto ≡ from) → count_behind from (reply_of w upto) ≡ upto
+pub counts_reply : (w : What) (from upto : ℕ) → (may_append w ≡ false → upto ≡ from) → count_behind from (reply_of w upto) ≡ upto
 counts_reply (Draws p) from upto stays = refl
 counts_reply DrawsNone from upto stays = refl
 counts_reply Imports from upto stays = refl
@@ -202,13 +202,13 @@ counts_reply (GivesUp p) from upto stays = sym (stays refl)
 counts_reply (GoesOn p) from upto stays = sym (stays refl)
 counts_reply (GivesUpHad p had) from upto stays = sym (stays refl)
 
-stays_none : (clauses : List (List ℕ)) (from : ℕ) (s : Said) → (may_append s.what ≡ false → s.upto ≡ from) → may_append s.what ≡ false → between clauses from s.upto ≡ []
+pub stays_none : (clauses : List (List ℕ)) (from : ℕ) (s : Said) → (may_append s.what ≡ false → s.upto ≡ from) → may_append s.what ≡ false → between clauses from s.upto ≡ []
 stays_none clauses from s stays e = ap (between clauses from) (stays e) ∙ between_none clauses from
 
-added_is : (clauses : List (List ℕ)) (from left : ℕ) (s : Said) → Counts (length clauses) from left s → added_by (entry_of clauses from s).event ≡ between clauses from s.upto
+pub added_is : (clauses : List (List ℕ)) (from left : ℕ) (s : Said) → Counts (length clauses) from left s → added_by (entry_of clauses from s).event ≡ between clauses from s.upto
 added_is clauses from left s c = keeps_added s.what (between clauses from s.upto) (stays_none clauses from s c.stays)
 
-count_is : (clauses : List (List ℕ)) (from left : ℕ) (s : Said) → Counts (length clauses) from left s → from + length (added_by (entry_of clauses from s).event) ≡ s.upto
+pub count_is : (clauses : List (List ℕ)) (from left : ℕ) (s : Said) → Counts (length clauses) from left s → from + length (added_by (entry_of clauses from s).event) ≡ s.upto
 count_is clauses from left s c =
     let len : length (added_by (entry_of clauses from s).event) ≡ s.upto - from = ap length (added_is clauses from left s c) ∙ between_length clauses from s.upto c.rises c.most in
     omega (arith, len, c.rises)

@@ -9,3 +9,6 @@ pub mod StimulusLemmas
 pub mod WhatLemmas
 pub mod JournalLemmas
 pub mod EndLemmas
+pub mod WholeLemmas
+pub mod ShownLemmas
+pub mod FinalLemmas

@@ -6,7 +6,7 @@ ghost use Rattle.report.specs.Tokens.{budget_at, exact_at, has_leading_zero, is_
 use ja_text::{number, word};
 use store_core::Mark;
 
-fn has_leading_zero(bytes: &[u8]) -> bool
+pub fn has_leading_zero(bytes: &[u8]) -> bool
     ensures { result ≡ has_leading_zero bytes.now }
 {
     matches!(bytes, [b'0', b'0'..=b'9', ..])
