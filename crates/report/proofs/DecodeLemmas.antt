@@ -155,17 +155,17 @@ IsOneLine-spaced n small = ((λ e. absurd cc), IsOneLine-small n small)
 pub sizes_read : IsRead AreSmallSizes (λ s. codes "design" ++ sizes_words s) sizes_of
 sizes_read = record {
   one_line = λ s small.
-    let a = IsOneLine-spaced s.vars small.vars in
-    let wb = spaced s.vars ++ spaced s.inputs in
-    let wc = wb ++ spaced s.latches in
-    let wd = wc ++ spaced s.gates in
-    let we = wd ++ spaced s.props in
-    let b = IsOneLine-append (spaced s.vars) (spaced s.inputs) a (IsOneLine-spaced s.inputs small.inputs) in
-    let c = IsOneLine-append wb (spaced s.latches) b (IsOneLine-spaced s.latches small.latches) in
-    let d = IsOneLine-append wc (spaced s.gates) c (IsOneLine-spaced s.gates small.gates) in
-    let e = IsOneLine-append wd (spaced s.props) d (IsOneLine-spaced s.props small.props) in
-    let f = IsOneLine-append we (spaced s.constraints) e (IsOneLine-spaced s.constraints small.constraints) in
-    IsOneLine-append (codes "design") (sizes_words s) (IsOneLine-tested (codes "design") refl) f;
+      let a = IsOneLine-spaced s.vars small.vars in
+      let wb = spaced s.vars ++ spaced s.inputs in
+      let wc = wb ++ spaced s.latches in
+      let wd = wc ++ spaced s.gates in
+      let we = wd ++ spaced s.props in
+      let b = IsOneLine-append (spaced s.vars) (spaced s.inputs) a (IsOneLine-spaced s.inputs small.inputs) in
+      let c = IsOneLine-append wb (spaced s.latches) b (IsOneLine-spaced s.latches small.latches) in
+      let d = IsOneLine-append wc (spaced s.gates) c (IsOneLine-spaced s.gates small.gates) in
+      let e = IsOneLine-append wd (spaced s.props) d (IsOneLine-spaced s.props small.props) in
+      let f = IsOneLine-append we (spaced s.constraints) e (IsOneLine-spaced s.constraints small.constraints) in
+      IsOneLine-append (codes "design") (sizes_words s) (IsOneLine-tested (codes "design") refl) f;
   takes = sizes_takes;
   again = sizes_again;
 }
@@ -221,9 +221,9 @@ IsOneLine-expectation false = IsOneLine-tested (32 ∷ codes "fail") refl
 pub prop_read : (p : ℕ) → p < 2 ^ 32 → IsRead (λ x. IsSmallMark x.mark) (prop_words p) (prop_of p)
 prop_read p small = record {
   one_line = λ x mark.
-    let named : IsOneLine (property_word p) = ((λ e. absurd cc), IsOneLine-small p small) in
-    IsOneLine-append (property_word p ++ 32 ∷ expectation_word x.assumed) (32 ∷ mark_words x.mark)
-    (IsOneLine-append (property_word p) (32 ∷ expectation_word x.assumed) named (IsOneLine-expectation x.assumed)) ((λ e. absurd cc), IsOneLine-mark x.mark mark);
+      let named : IsOneLine (property_word p) = ((λ e. absurd cc), IsOneLine-small p small) in
+      IsOneLine-append (property_word p ++ 32 ∷ expectation_word x.assumed) (32 ∷ mark_words x.mark)
+      (IsOneLine-append (property_word p) (32 ∷ expectation_word x.assumed) named (IsOneLine-expectation x.assumed)) ((λ e. absurd cc), IsOneLine-mark x.mark mark);
   takes = prop_takes p;
   again = prop_again p small;
 }
@@ -356,6 +356,7 @@ journal_takes clauses line next e = step (bytes_eq line (codes "end")) refl e
   where
     f : ℕ → Option (Option ℕ)
     f n = where_true (not (eqb n 0) || eqb clauses 0) (Some (Some n))
+
     counted : (count_of (codes "journal ") line >>= f) ≡ Some next → IfSome next (IsEntryCount clauses) × (line ≡ journal_words next)
     counted h =
         let x = bind_some (count_of (codes "journal ") line) f next h in
@@ -363,6 +364,7 @@ journal_takes clauses line next e = step (bytes_eq line (codes "end")) refl e
         let t = count_takes (codes "journal ") line x.0 x.1 in
         subst (λ (n : Option ℕ). IfSome n (IsEntryCount clauses) × (line ≡ journal_words n)) (same_Some (Some x.0) next test.1)
         (record { small = t.0; some = some_count x.0 clauses test.0 }, t.1)
+
     step : (t : Bool) → t ≡ bytes_eq line (codes "end") → cond t (Some None) (count_of (codes "journal ") line >>= f) ≡ Some next
         → IfSome next (IsEntryCount clauses) × (line ≡ journal_words next)
     step true is h =

@@ -57,16 +57,20 @@ next_there props clauses (None, p) fits = ((false, p.0), fits.1, refl)
 next_there props clauses (Some n, p) fits =
     let len : length p.0 ≡ n = count_of_entries props clauses n p.0 fits.1.0 in
     let count : IsEntryCount (length clauses) (length p.0) = subst (IsEntryCount (length clauses)) (sym len) fits.0 in
-    let entries : AreEntries props clauses (length p.0) p.0 = subst (λ (k : ℕ). AreEntries props clauses k p.0) (sym len) fits.1.0 in
-    ((true, p.0), (count, entries),
-    append_assoc (line_of (codes "journal " ++ decimal (length p.0))) (entry_lines 0 p.0) (line_of (codes "end"))
-    ∙ ap (λ (k : ℕ). line_of (codes "journal " ++ decimal k) ++ (entry_lines 0 p.0 ++ line_of (codes "end"))) len)
+    let entries : AreEntries props clauses (length p.0) p.0 = subst (λ (k : ℕ). AreEntries props clauses k p.0) (sym len) fits.1.0 in (
+      (true, p.0),
+      (count, entries),
+      append_assoc (line_of (codes "journal " ++ decimal (length p.0))) (entry_lines 0 p.0) (line_of (codes "end"))
+          ∙ ap (λ (k : ℕ). line_of (codes "journal " ++ decimal k) ++ (entry_lines 0 p.0 ++ line_of (codes "end"))) len,
+    )
 
 next_back : (props : ℕ) (clauses : List (List ℕ)) → IsPart (tail_form props clauses) (next_form props clauses)
 next_back props clauses (false, es) fits = ((None, (es, tt)), (tt, fits), refl)
-next_back props clauses (true, es) fits =
-    ((Some (length es), (es, tt)), (fits.0, (fits.1, tt)),
-    sym (append_assoc (line_of (codes "journal " ++ decimal (length es))) (entry_lines 0 es) (line_of (codes "end"))))
+next_back props clauses (true, es) fits = (
+  (Some (length es), (es, tt)),
+  (fits.0, (fits.1, tt)),
+  sym (append_assoc (line_of (codes "journal " ++ decimal (length es))) (entry_lines 0 es) (line_of (codes "end"))),
+)
 
 rest_sound : (props : ℕ) (clauses : List (List ℕ)) (next : Option ℕ) → length clauses < 2 ^ 32 → IfSome next (IsEntryCount (length clauses)) → IsSound (rest_form props clauses next)
 rest_sound props clauses None small fits = record {
@@ -110,7 +114,7 @@ pub tail_stops_entries : (props : ℕ) (clauses : List (List ℕ)) (n : ℕ) (by
 tail_stops_entries props clauses n bytes mid left t stop =
     tail_stops props clauses bytes left
     (stops_behind (journal_form (length clauses)) (rest_form props clauses) (journal_sound (length clauses)) bytes (Some n) mid left t
-      (stops_first (entries_form props clauses n) (λ _. words_form (codes "end")) (λ _ _. some_words (codes "end")) mid left stop))
+    (stops_first (entries_form props clauses n) (λ _. words_form (codes "end")) (λ _ _. some_words (codes "end")) mid left stop))
 
 pub tail_stops_end : (props : ℕ) (clauses : List (List ℕ)) (n : ℕ) (es : List Entry) (bytes mid rest : List ℕ) (left : ℕ) → length clauses < 2 ^ 32
     → Takes (journal_form (length clauses)) bytes (Some n) mid → Takes (entries_form props clauses n) mid es rest → Stops (words_form (codes "end")) rest left
@@ -118,7 +122,7 @@ pub tail_stops_end : (props : ℕ) (clauses : List (List ℕ)) (n : ℕ) (es : L
 tail_stops_end props clauses n es bytes mid rest left small t u stop =
     tail_stops props clauses bytes left
     (stops_behind (journal_form (length clauses)) (rest_form props clauses) (journal_sound (length clauses)) bytes (Some n) mid left t
-      (stops_behind (entries_form props clauses n) (λ _. words_form (codes "end")) (entries_sound props clauses n small t.fits.some) mid es rest left u stop))
+    (stops_behind (entries_form props clauses n) (λ _. words_form (codes "end")) (entries_sound props clauses n small t.fits.some) mid es rest left u stop))
 
 pub tail_taken : (props : ℕ) (clauses : List (List ℕ)) (n : ℕ) (es : List Entry) (bytes mid rest after : List ℕ) → Takes (journal_form (length clauses)) bytes (Some n) mid
     → Takes (entries_form props clauses n) mid es rest → Takes (words_form (codes "end")) rest tt after → Takes (tail_form props clauses) bytes (true, es) after

@@ -43,18 +43,20 @@ bare r = record r { journal = [] }
 bare_text : (r : Findings) → r.shown ≡ false → report_text (bare r) ≡ report_text r
 bare_text r e =
     ap (λ (j : List ℕ). line_of (codes "jasign 1") ++ line_of (codes "design" ++ sizes_words r.sizes) ++ prop_lines 0 r.lines
-      ++ line_of (codes "clauses " ++ decimal (length r.clauses)) ++ flat_map (λ c. line_of (clause_words c)) r.clauses
-      ++ flat_map stimulus_lines r.stimuli ++ line_of (joined_words r.joined) ++ line_of (set_words r.set) ++ j ++ line_of (codes "end"))
+    ++ line_of (codes "clauses " ++ decimal (length r.clauses)) ++ flat_map (λ c. line_of (clause_words c)) r.clauses
+    ++ flat_map stimulus_lines r.stimuli ++ line_of (joined_words r.joined) ++ line_of (set_words r.set) ++ j ++ line_of (codes "end"))
     (journal_none r.shown [] r.journal e)
 
 read_as : (b : Bool) (r : Findings) → r.shown ≡ b → IsReport r → IsSmall r → IsRead (cond b r (bare r)) × (report_text (cond b r (bare r)) ≡ report_text r)
 read_as true r e form small = (record { form = form; small = small; hidden = λ f. let wrong : true ≡ false = sym e ∙ f in absurd cc }, refl)
-read_as false r e form small =
-    (record {
-      form = record { lines = form.lines; clauses = form.clauses; stimuli = form.stimuli; widths = form.widths; set_ascends = form.set_ascends; set_within = form.set_within; journal = not_shown r.shown (IsShownJournal (bare r)) e };
-      small = record { sizes = small.sizes; marks = small.marks; count = small.count; literals = small.literals; journal = not_shown r.shown ((0 < 2 ^ 32) × ⊤) e };
-      hidden = λ f. refl;
-    }, bare_text r e)
+read_as false r e form small = (
+  record {
+    form = record { lines = form.lines; clauses = form.clauses; stimuli = form.stimuli; widths = form.widths; set_ascends = form.set_ascends; set_within = form.set_within; journal = not_shown r.shown (IsShownJournal (bare r)) e };
+    small = record { sizes = small.sizes; marks = small.marks; count = small.count; literals = small.literals; journal = not_shown r.shown ((0 < 2 ^ 32) × ⊤) e };
+    hidden = λ f. refl;
+  },
+  bare_text r e,
+)
 
 -- the text of a report is that of the report as it is read
 shown_taken : (bytes : List ℕ) (r : Findings) → IsReportText bytes r → Takes report_form bytes (as_shown r) []
@@ -133,9 +135,9 @@ followed bytes r rest t some =
         number = refl;
         begins = record { report = r; rest = []; text = record { form = t.fits.form; small = t.fits.small; text = append-nil text } };
         no_more = λ line after one e h.
-          let v = begun text line h.rest h.report h.text in
-          let same = report_sound.one r (line ++ 10 ∷ h.rest) (as_shown h.report) [] t.fits v.fits (sym (append_assoc text line (10 ∷ h.rest)) ∙ v.parts) in
-          not_nothing line h.rest same.1;
+            let v = begun text line h.rest h.report h.text in
+            let same = report_sound.one r (line ++ 10 ∷ h.rest) (as_shown h.report) [] t.fits v.fits (sym (append_assoc text line (10 ∷ h.rest)) ∙ v.parts) in
+            not_nothing line h.rest same.1;
         none = λ s u. some (one_text bytes r rest s t u).1;
       };
     }
@@ -216,9 +218,9 @@ other_takes bytes digits e =
       are_digits = are;
       leading = leading_of text many are (not_true (has_leading_zero text) b.1);
       other = λ same.
-        let yes_one : bytes_eq text (codes "1") ≡ true = (bytes_eq-Decides text (codes "1")).1 same in
-        let wrong : true ≡ false = sym yes_one ∙ not_true (bytes_eq text (codes "1")) a.1 in
-        absurd cc;
+          let yes_one : bytes_eq text (codes "1") ≡ true = (bytes_eq-Decides text (codes "1")).1 same in
+          let wrong : true ≡ false = sym yes_one ∙ not_true (bytes_eq text (codes "1")) a.1 in
+          absurd cc;
     }
 
 not_one : (text : List ℕ) → text ≢ codes "1" → bytes_eq text (codes "1") ≡ false

@@ -59,11 +59,11 @@ pub same_sound : {X Y : Type 0} (F : Form X) (G : Form Y) (to : X → Y) (there 
 same_sound F G to there back same sound =
     record {
       one = λ y a z b fy fz e.
-        let v = back y fy in
-        let w = back z fz in
-        let text : F.text v.0 ++ a ≡ F.text w.0 ++ b = ap (λ (t : List ℕ). t ++ a) v.2 ∙ e ∙ ap (λ (t : List ℕ). t ++ b) (sym w.2) in
-        let found = sound.one v.0 a w.0 b v.1 w.1 text in
-        (sym (same y fy) ∙ ap to found.0 ∙ same z fz, found.1);
+          let v = back y fy in
+          let w = back z fz in
+          let text : F.text v.0 ++ a ≡ F.text w.0 ++ b = ap (λ (t : List ℕ). t ++ a) v.2 ∙ e ∙ ap (λ (t : List ℕ). t ++ b) (sym w.2) in
+          let found = sound.one v.0 a w.0 b v.1 w.1 text in
+          (sym (same y fy) ∙ ap to found.0 ∙ same z fz, found.1);
       some = (let y = there sound.some.0 sound.some.1 in (y.0, y.1));
       lines = λ y fits. let v = back y fits in subst AreLines v.2 (sound.lines v.0 v.1);
     }
@@ -126,8 +126,8 @@ module _ {X Y : Type 0} (F : Form X) (G : X → Form Y) where
           text = ap (λ (v : List ℕ). F.text x ++ v) s.begins.text ∙ sym (append_assoc (F.text x) s.front s.begins.rest);
         };
         no_more = λ line after behind one e.
-          subst (TakesNone (then F G)) (sym (regroup (F.text x) s.front line (10 ∷ behind)))
-          (no_behind sound.one x (s.front ++ line ++ 10 ∷ behind) t.fits (s.no_more line after behind one e));
+            subst (TakesNone (then F G)) (sym (regroup (F.text x) s.front line (10 ∷ behind)))
+            (no_behind sound.one x (s.front ++ line ++ 10 ∷ behind) t.fits (s.no_more line after behind one e));
         none = subst (TakesNone (then F G)) (sym t.parts) (no_behind sound.one x mid t.fits s.none);
       }
     where
@@ -166,9 +166,9 @@ module _ {X : Type 0} (Fits : X → Type 0) (words : X → List ℕ) where
   line_sound are some =
       record {
         one = λ x a y b fx fy e.
-          let lines : words x ++ 10 ∷ a ≡ words y ++ 10 ∷ b = sym (append_assoc (words x) (10 ∷ []) a) ∙ e ∙ append_assoc (words y) (10 ∷ []) b in
-          let parts = line_one (words x) (words y) a b (are.one_line x fx) (are.one_line y fy) lines in
-          (are.same x y fx fy parts.0, parts.1);
+            let lines : words x ++ 10 ∷ a ≡ words y ++ 10 ∷ b = sym (append_assoc (words x) (10 ∷ []) a) ∙ e ∙ append_assoc (words y) (10 ∷ []) b in
+            let parts = line_one (words x) (words y) a b (are.one_line x fx) (are.one_line y fy) lines in
+            (are.same x y fx fy parts.0, parts.1);
         some = some;
         lines = λ x fits. inr (words x, refl);
       }
@@ -193,9 +193,9 @@ module _ {X : Type 0} (Fits : X → Type 0) (words : X → List ℕ) where
         lines = inl refl;
         begins = record { value = some.0; rest = words some.0 ++ 10 ∷ []; fits = some.1; text = refl };
         no_more = λ line after behind one e x rest t.
-          let here : line_at (line ++ 10 ∷ behind) ≡ Some (line, behind) = line_again line behind one in
-          let parts = some_pair_parts line (words x) behind rest (sym here ∙ cut_again are (line ++ 10 ∷ behind) x rest t) in
-          none x after (record { fits = t.fits; parts = e ∙ ap (λ (v : List ℕ). v ++ 10 ∷ after) parts.0 ∙ sym (append_assoc (words x) (10 ∷ []) after) });
+            let here : line_at (line ++ 10 ∷ behind) ≡ Some (line, behind) = line_again line behind one in
+            let parts = some_pair_parts line (words x) behind rest (sym here ∙ cut_again are (line ++ 10 ∷ behind) x rest t) in
+            none x after (record { fits = t.fits; parts = e ∙ ap (λ (v : List ℕ). v ++ 10 ∷ after) parts.0 ∙ sym (append_assoc (words x) (10 ∷ []) after) });
         none = none;
       }
 

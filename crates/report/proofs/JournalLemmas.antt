@@ -233,15 +233,19 @@ entries_text props clauses (suc n) d (s ∷ ss) small m len fits =
 
 entries_there : (props : ℕ) (clauses : List (List ℕ)) (count : ℕ) → length clauses < 2 ^ 32 → (count ≡ 0 → length clauses ≡ 0)
     → IsPart (saids_form props (length clauses) count) (entries_form props clauses count)
-entries_there props clauses count small some ss fits =
-    (entries_of clauses 0 ss, record { lines = ss; fit = fits; are = refl },
-    entries_text props clauses count (0, count) ss small (met_first (length clauses) count some) fits.as_many fits.each)
+entries_there props clauses count small some ss fits = (
+  entries_of clauses 0 ss,
+  record { lines = ss; fit = fits; are = refl },
+  entries_text props clauses count (0, count) ss small (met_first (length clauses) count some) fits.as_many fits.each,
+)
 
 entries_back : (props : ℕ) (clauses : List (List ℕ)) (count : ℕ) → length clauses < 2 ^ 32 → (count ≡ 0 → length clauses ≡ 0)
     → IsPart (entries_form props clauses count) (saids_form props (length clauses) count)
-entries_back props clauses count small some es h =
-    (h.lines, h.fit,
-    sym (ap (entry_lines 0) h.are ∙ entries_text props clauses count (0, count) h.lines small (met_first (length clauses) count some) h.fit.as_many h.fit.each))
+entries_back props clauses count small some es h = (
+  h.lines,
+  h.fit,
+  sym (ap (entry_lines 0) h.are ∙ entries_text props clauses count (0, count) h.lines small (met_first (length clauses) count some) h.fit.as_many h.fit.each),
+)
 
 pub entries_sound : (props : ℕ) (clauses : List (List ℕ)) (count : ℕ) → length clauses < 2 ^ 32 → (count ≡ 0 → length clauses ≡ 0)
     → IsSound (entries_form props clauses count)

@@ -244,13 +244,13 @@ set_text line mid props rest read t ended =
 pub set_are_words : (count : ℕ) → count < 2 ^ 32 → IsWords (IsSet count) set_words
 set_are_words count small = record {
   one_line = λ set h.
-    IsOneLine-append (codes "set") (flat_map member_words set) (IsOneLine-tested (codes "set") refl)
-    (IsOneLine-all (98 ∷ []) set (IsOneLine-tested (codes " b") refl) (below_small count set small h.within));
+      IsOneLine-append (codes "set") (flat_map member_words set) (IsOneLine-tested (codes "set") refl)
+      (IsOneLine-all (98 ∷ []) set (IsOneLine-tested (codes " b") refl) (below_small count set small h.within));
   same = λ s t hs ht e.
-    let found : Some (flat_map member_words s) ≡ Some (flat_map member_words t)
-    = sym (word_again (codes "set") (flat_map member_words s)) ∙ ap (word_at (codes "set")) e ∙ word_again (codes "set") (flat_map member_words t) in
-    let same : flat_map (behind (codes " b")) s ≡ flat_map (behind (codes " b")) t = cc in
-    flat_same (98 ∷ []) s t (below_small count s small hs.within) (below_small count t small ht.within) same;
+      let found : Some (flat_map member_words s) ≡ Some (flat_map member_words t)
+      = sym (word_again (codes "set") (flat_map member_words s)) ∙ ap (word_at (codes "set")) e ∙ word_again (codes "set") (flat_map member_words t) in
+      let same : flat_map (behind (codes " b")) s ≡ flat_map (behind (codes " b")) t = cc in
+      flat_same (98 ∷ []) s t (below_small count s small hs.within) (below_small count t small ht.within) same;
 }
 
 -- ---- as functions end

@@ -23,9 +23,10 @@ pub some_count : (word : List ℕ) → HasSome (count_form word)
 some_count word = (0, omega arith)
 
 pub some_sizes : HasSome sizes_form
-some_sizes =
-    (record { vars = 0; inputs = 0; latches = 0; gates = 0; props = 0; constraints = 0 },
-    record { vars = omega arith; inputs = omega arith; latches = omega arith; gates = omega arith; props = omega arith; constraints = omega arith })
+some_sizes = (
+  record { vars = 0; inputs = 0; latches = 0; gates = 0; props = 0; constraints = 0 },
+  record { vars = omega arith; inputs = omega arith; latches = omega arith; gates = omega arith; props = omega arith; constraints = omega arith },
+)
 
 pub some_prop : (p : ℕ) → HasSome (prop_form p)
 some_prop p = (record { assumed = true; mark = Proved }, tt)

@@ -168,8 +168,8 @@ lines_of props clauses from (e ∷ es) sp sc le answered small appended =
     let stays : may_append a.what ≡ false → upto ≡ from = λ no. let none : length added ≡ 0 = ap length (a.appends no) in omega (arith, none) in
     let last : length (e ∷ es) ≡ 1 → upto ≡ length clauses
     = λ one. let none : es ≡ [] = nil_from_length es (omega (arith, one)) in
-      let empty : length rest ≡ 0 = ap (λ (v : List Entry). length (flat_map added_of v)) none in
-      omega (arith, len, empty, le) in
+    let empty : length rest ≡ 0 = ap (λ (v : List Entry). length (flat_map added_of v)) none in
+    omega (arith, len, empty, le) in
     let counts : Counts (length clauses) from (length (e ∷ es)) s = record { rises = omega arith; most = most; stays = stays; last = last } in
     let others = lines_of props clauses upto es sp sc most answered.1 small.1 behind in
     let due : IsDueSaid props (length clauses) from (length (e ∷ es)) s = record {

@@ -70,16 +70,20 @@ rows_after width (Some row) = rows_form width
 rows_there : (width : ℕ) → IsPart (then (next_row_form width) (rows_after width)) (rows_form width)
 unfolding rows_after
 rows_there width (None, rows) fits = ([], tt, refl)
-rows_there width (Some row, rows) fits =
-    (row ∷ rows, (fits.0, fits.1),
-    ap (λ (v : List ℕ). v ++ codes ".\n") (flat_map-cons row_line row rows) ∙ append_assoc (row_line row) (flat_map row_line rows) (codes ".\n"))
+rows_there width (Some row, rows) fits = (
+  row ∷ rows,
+  (fits.0, fits.1),
+  ap (λ (v : List ℕ). v ++ codes ".\n") (flat_map-cons row_line row rows) ∙ append_assoc (row_line row) (flat_map row_line rows) (codes ".\n"),
+)
 
 rows_back : (width : ℕ) → IsPart (rows_form width) (then (next_row_form width) (rows_after width))
 unfolding rows_after
 rows_back width [] fits = ((None, []), (tt, refl), refl)
-rows_back width (row ∷ rows) fits =
-    ((Some row, rows), (fits.0, fits.1),
-    sym (ap (λ (v : List ℕ). v ++ codes ".\n") (flat_map-cons row_line row rows) ∙ append_assoc (row_line row) (flat_map row_line rows) (codes ".\n")))
+rows_back width (row ∷ rows) fits = (
+  (Some row, rows),
+  (fits.0, fits.1),
+  sym (ap (λ (v : List ℕ). v ++ codes ".\n") (flat_map-cons row_line row rows) ∙ append_assoc (row_line row) (flat_map row_line rows) (codes ".\n")),
+)
 
 after_some : (width : ℕ) (next : Option (List Bool)) → HasSome (rows_after width next)
 unfolding rows_after
@@ -144,15 +148,19 @@ rows_sound width = record {
 -- ---- one row or more up to the dot
 
 inputs_there : (width : ℕ) → IsPart (then (row_form width) (λ _. rows_form width)) (inputs_form width)
-inputs_there width (row, rows) fits =
-    (row ∷ rows, record { some = omega arith; widths = (fits.0, fits.1) },
-    ap (λ (v : List ℕ). v ++ codes ".\n") (flat_map-cons row_line row rows) ∙ append_assoc (row_line row) (flat_map row_line rows) (codes ".\n"))
+inputs_there width (row, rows) fits = (
+  row ∷ rows,
+  record { some = omega arith; widths = (fits.0, fits.1) },
+  ap (λ (v : List ℕ). v ++ codes ".\n") (flat_map-cons row_line row rows) ∙ append_assoc (row_line row) (flat_map row_line rows) (codes ".\n"),
+)
 
 inputs_back : (width : ℕ) → IsPart (inputs_form width) (then (row_form width) (λ _. rows_form width))
 inputs_back width [] fits = absurd (omega (arith, fits.some))
-inputs_back width (row ∷ rows) fits =
-    ((row, rows), (fits.widths.0, fits.widths.1),
-    sym (ap (λ (v : List ℕ). v ++ codes ".\n") (flat_map-cons row_line row rows) ∙ append_assoc (row_line row) (flat_map row_line rows) (codes ".\n")))
+inputs_back width (row ∷ rows) fits = (
+  (row, rows),
+  (fits.widths.0, fits.widths.1),
+  sym (ap (λ (v : List ℕ). v ++ codes ".\n") (flat_map-cons row_line row rows) ∙ append_assoc (row_line row) (flat_map row_line rows) (codes ".\n")),
+)
 
 pub inputs_sound : (width : ℕ) → IsSound (inputs_form width)
 inputs_sound width = record {
@@ -246,15 +254,18 @@ stimulus_parts p first inputs =
 
 stimulus_there : (s : Sizes) (p : ℕ) → IsPart (parts_form s p) (stimulus_form s p)
 stimulus_there s p x fits =
-    let stim : Trace = record { first = x.1.0; inputs = x.1.1 } in
-    (record { prop = p; stim = stim },
-    record { property = refl; widths = record { first = fits.1.0; rows = fits.1.1.widths; some = fits.1.1.some } }, stimulus_parts p x.1.0 x.1.1)
+    let stim : Trace = record { first = x.1.0; inputs = x.1.1 } in (
+      record { prop = p; stim = stim },
+      record { property = refl; widths = record { first = fits.1.0; rows = fits.1.1.widths; some = fits.1.1.some } },
+      stimulus_parts p x.1.0 x.1.1,
+    )
 
 stimulus_back : (s : Sizes) (p : ℕ) → IsPart (stimulus_form s p) (parts_form s p)
-stimulus_back s p x fits =
-    (((tt, (tt, tt)), (x.stim.first, x.stim.inputs)),
-    ((tt, (tt, tt)), (fits.widths.first, record { some = fits.widths.some; widths = fits.widths.rows })),
-    sym (ap (λ (q : ℕ). stimulus_lines (record { prop = q; stim = x.stim })) fits.property ∙ stimulus_parts p x.stim.first x.stim.inputs))
+stimulus_back s p x fits = (
+  ((tt, (tt, tt)), (x.stim.first, x.stim.inputs)),
+  ((tt, (tt, tt)), (fits.widths.first, record { some = fits.widths.some; widths = fits.widths.rows })),
+  sym (ap (λ (q : ℕ). stimulus_lines (record { prop = q; stim = x.stim })) fits.property ∙ stimulus_parts p x.stim.first x.stim.inputs),
+)
 
 pub trace_sound : (s : Sizes) → IsSound (then (row_form s.latches) (λ _. inputs_form s.inputs))
 trace_sound s = then_sound (row_form s.latches) (λ _. inputs_form s.inputs) (row_sound s.latches) (λ _ _. inputs_sound s.inputs)
@@ -297,8 +308,8 @@ where_same s p (x ∷ y ∷ xs) fits = absurd fits
 pub where_sound : (b : Bool) (s : Sizes) (p : ℕ) → p < 2 ^ 32 → IsSound (where_form b s p)
 where_sound false s p small = record {
   one = λ xs a ys b fx fy e.
-    let text : a ≡ b = ap (λ (v : List PropStim). flat_map stimulus_lines v ++ a) (sym fx) ∙ e ∙ ap (λ (v : List PropStim). flat_map stimulus_lines v ++ b) fy in
-    (fx ∙ sym fy, text);
+      let text : a ≡ b = ap (λ (v : List PropStim). flat_map stimulus_lines v ++ a) (sym fx) ∙ e ∙ ap (λ (v : List PropStim). flat_map stimulus_lines v ++ b) fy in
+      (fx ∙ sym fy, text);
   some = ([], refl);
   lines = λ xs fits. inl (ap (flat_map stimulus_lines) fits);
 }

@@ -90,6 +90,7 @@ written false text rest n is number zero e =
   where
     below : (n v : ℕ) → n ≡ min v 18446744073709551615 → n ≢ 18446744073709551615 → v ≡ n
     below n v is other = omega (arith, is, other)
+
     under : (n v : ℕ) → n ≡ min v 18446744073709551615 → n < 2 ^ 64
     under n v is = omega (arith, is)
 

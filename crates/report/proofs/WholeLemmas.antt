@@ -94,9 +94,10 @@ hidden_of false props clauses es e f = e
 
 ending_of : (b : Bool) (r : Findings) → r.sizes.props < 2 ^ 32 → length r.clauses < 2 ^ 32 → IfShown b (IsShownJournal r)
     → IfShown b ((length r.journal < 2 ^ 32) × AllByRecursion IsSmallEntry r.journal) → (b ≡ false → r.journal ≡ []) → IsEnding r.sizes.props r.clauses b r.journal
-ending_of true r sp sc shown small hidden =
-    (record { small = small.0; some = entries_some r.clauses r.journal shown.appended },
-    entries_are r.sizes.props r.clauses r.journal sp sc shown.answered small.1 shown.appended)
+ending_of true r sp sc shown small hidden = (
+  record { small = small.0; some = entries_some r.clauses r.journal shown.appended },
+  entries_are r.sizes.props r.clauses r.journal sp sc shown.answered small.1 shown.appended,
+)
 ending_of false r sp sc shown small hidden = hidden refl
 
 -- ---- the whole
@@ -176,10 +177,13 @@ parts_read x fits =
 parts_fit : (r : Findings) → IsRead r → parts_form.Fits (parts_of r)
 parts_fit r h =
     let f = h.form in
-    let m = h.small in
-    ((tt, (m.sizes, record { as_many = f.lines; each = props_fit 0 r.lines m.marks })),
-    (((m.count, record { as_many = refl; each = clauses_fit r.sizes.vars r.clauses f.clauses m.literals }), record { props = f.stimuli; widths = f.widths }),
-    (tt, (record { ascends = f.set_ascends; within = f.set_within }, ending_of r.shown r m.sizes.props m.count f.journal m.journal h.hidden))))
+    let m = h.small in (
+      (tt, (m.sizes, record { as_many = f.lines; each = props_fit 0 r.lines m.marks })),
+      (
+        ((m.count, record { as_many = refl; each = clauses_fit r.sizes.vars r.clauses f.clauses m.literals }), record { props = f.stimuli; widths = f.widths }),
+        (tt, (record { ascends = f.set_ascends; within = f.set_within }, ending_of r.shown r m.sizes.props m.count f.journal m.journal h.hidden)),
+      ),
+    )
 
 report_there : IsPart parts_form report_form
 report_there x fits = (report_of x, parts_read x fits, sym (parts_text (report_of x)) ∙ ap parts_form.text (parts_same x fits))
@@ -216,14 +220,14 @@ pub report_stops_found : (bytes : List ℕ) (h : ⊤ × (Sizes × List PropLine)
 report_stops_found bytes h mid left t stop =
     same_stops parts_form report_form report_there report_back bytes left
     (stops_behind head_form behind_head head_sound bytes h mid left t
-      (stops_first (found_form h.1.0 (marks_of h.1.1)) (behind_found h) (λ f found. (behind_found_sound h t.fits f found).some) mid left stop))
+    (stops_first (found_form h.1.0 (marks_of h.1.1)) (behind_found h) (λ f found. (behind_found_sound h t.fits f found).some) mid left stop))
 
 pub report_stops_end : (bytes : List ℕ) (h : ⊤ × (Sizes × List PropLine)) (mid : List ℕ) (f : (ℕ × List (List ℕ)) × List PropStim) (rest : List ℕ) (left : ℕ) → Takes head_form bytes h mid
     → Takes (found_form h.1.0 (marks_of h.1.1)) mid f rest → Stops (behind_found h f) rest left → Stops report_form bytes left
 report_stops_end bytes h mid f rest left t u stop =
     same_stops parts_form report_form report_there report_back bytes left
     (stops_behind head_form behind_head head_sound bytes h mid left t
-      (stops_behind (found_form h.1.0 (marks_of h.1.1)) (behind_found h) (found_sound h.1.0 (marks_of h.1.1) (head_small h t.fits).1) mid f rest left u stop))
+    (stops_behind (found_form h.1.0 (marks_of h.1.1)) (behind_found h) (found_sound h.1.0 (marks_of h.1.1) (head_small h t.fits).1) mid f rest left u stop))
 
 pub report_taken : (bytes : List ℕ) (h : ⊤ × (Sizes × List PropLine)) (mid : List ℕ) (f : (ℕ × List (List ℕ)) × List PropStim) (rest : List ℕ)
     (e : Bool × (List ℕ × (Bool × List Entry))) (after : List ℕ) → Takes head_form bytes h mid → Takes (found_form h.1.0 (marks_of h.1.1)) mid f rest

@@ -123,11 +123,7 @@ fn is_dot(line: &[u8]) -> bool
 
 /// A row, or none where the rows end.
 #[tactic(auto, unfolding(crate::specs::Lines::next_row_of))]
-pub fn next_row_of(
-    alloc: Global,
-    width: u32,
-    line: &[u8],
-) -> Result<Option<Option<Row>>, Memory>
+pub fn next_row_of(alloc: Global, width: u32, line: &[u8]) -> Result<Option<Option<Row>>, Memory>
     ensures { IfOk result (λ row. row ≡ next_row_of width line.now) }
 {
     if is_dot(line) {

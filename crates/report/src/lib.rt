@@ -30,3 +30,6 @@ pub use read::read_report;
 pub use refusal::ReportRefusal;
 pub use value::Report;
 pub use write::text_of;
+
+#[cfg(test)]
+mod tests;

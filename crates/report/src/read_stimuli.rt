@@ -39,12 +39,7 @@ fn take_inputs(alloc: Global, width: u32, bytes: &[u8]) -> Read<(Rows, &[u8])>
     }
 }
 
-fn take_stimulus(
-    alloc: Global,
-    sizes: Sizes,
-    prop: u32,
-    bytes: &[u8],
-) -> Read<(PropStim, &[u8])>
+fn take_stimulus(alloc: Global, sizes: Sizes, prop: u32, bytes: &[u8]) -> Read<(PropStim, &[u8])>
     ensures { Reads (stimulus_form sizes prop) (λ x. x.0) (λ x. x.1.now) bytes.now result }
 {
     let rest = take_names(bytes, prop)?;

@@ -25,8 +25,8 @@ returns-in_err-first c =
     rw (p.1, p.2)
     (fails (row_form s.latches) (stimulus_form s c.args.prop) c.args.bytes.now c.in_ok-rest.rest.now c.in_err-first.field-0.0 c.in_err-first.ensures
     (λ left stop. stimulus_stops s c.args.prop c.args.bytes.now left
-      (stops_behind names (λ _. trace) (names_sound c.args.prop c.ranges.prop.fits) c.args.bytes.now (tt, (tt, tt)) c.in_ok-rest.rest.now left c.in_ok-rest.ensures
-      (stops_first (row_form s.latches) (λ _. inputs) (λ _ _. (inputs_sound s.inputs).some) c.in_ok-rest.rest.now left stop))))
+    (stops_behind names (λ _. trace) (names_sound c.args.prop c.ranges.prop.fits) c.args.bytes.now (tt, (tt, tt)) c.in_ok-rest.rest.now left c.in_ok-rest.ensures
+    (stops_first (row_form s.latches) (λ _. inputs) (λ _ _. (inputs_sound s.inputs).some) c.in_ok-rest.rest.now left stop))))
 
 pub returns-in_err-inputs : goal.returns-in_err-inputs
 returns-in_err-inputs c =
@@ -38,8 +38,8 @@ returns-in_err-inputs c =
     rw (p.1, p.2)
     (fails inputs (stimulus_form s c.args.prop) c.args.bytes.now c.in_ok-first.rest.now c.in_err-inputs.field-0.0 c.in_err-inputs.ensures
     (λ left stop. stimulus_stops s c.args.prop c.args.bytes.now left
-      (stops_behind names (λ _. trace) (names_sound c.args.prop c.ranges.prop.fits) c.args.bytes.now (tt, (tt, tt)) c.in_ok-rest.rest.now left c.in_ok-rest.ensures
-      (stops_behind (row_form s.latches) (λ _. inputs) (row_sound s.latches) c.in_ok-rest.rest.now c.in_ok-first.first c.in_ok-first.rest.now left c.in_ok-first.ensures stop))))
+    (stops_behind names (λ _. trace) (names_sound c.args.prop c.ranges.prop.fits) c.args.bytes.now (tt, (tt, tt)) c.in_ok-rest.rest.now left c.in_ok-rest.ensures
+    (stops_behind (row_form s.latches) (λ _. inputs) (row_sound s.latches) c.in_ok-rest.rest.now c.in_ok-first.first c.in_ok-first.rest.now left c.in_ok-first.ensures stop))))
 
 pub returns : goal.returns
 returns c =

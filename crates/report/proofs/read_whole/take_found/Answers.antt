@@ -29,4 +29,4 @@ returns-in_err-stimuli c =
     rw (p.1, p.2)
     (fails (stimuli_form s 0 marks) (found_form s marks) c.args.bytes.now c.in_ok-clauses.rest.now c.in_err-stimuli.field-0.0 c.in_err-stimuli.ensures
     (λ left stop. stops_behind (clauses_form s.vars) (λ _. stimuli_form s 0 marks) (clauses_form_sound s.vars) c.args.bytes.now (length clauses, clauses) c.in_ok-clauses.rest.now left
-      c.in_ok-clauses.ensures stop))
+    c.in_ok-clauses.ensures stop))
