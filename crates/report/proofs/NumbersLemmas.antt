@@ -30,14 +30,16 @@ pub record Grows (word bytes old new rest : List ℕ) : Type 0 where
   pub taken : Chain (TakesOne word) bytes numbers rest
   pub grown : new ≡ old ++ numbers
 
-chain_more : (word s : List ℕ) (ns t : List ℕ) (n : ℕ) (u : List ℕ) → Chain (TakesOne word) s ns t → TakesOne word t n u → Chain (TakesOne word) s (ns ++ n ∷ []) u
+chain_more : (word s : List ℕ) (ns t : List ℕ) (n : ℕ) (u : List ℕ) → Chain (TakesOne word) s ns t → TakesOne word t n u
+    → Chain (TakesOne word) s (ns ++ n ∷ []) u
 chain_more word s [] t n u c p = (u, subst (λ (v : List ℕ). TakesOne word v n u) (sym c) p, refl)
 chain_more word s (m ∷ ns) t n u c p = (c.0, c.1, chain_more word c.0 ns t n u c.2 p)
 
 pub grows_none : (word bytes old : List ℕ) → Grows word bytes old old bytes
 grows_none word bytes old = record { numbers = []; taken = refl; grown = sym (append-nil old) }
 
-pub grows_more : (word bytes old now rest next : List ℕ) (n : ℕ) (after : List ℕ) → Grows word bytes old now rest → small_behind word rest ≡ Some (n, after)
+pub grows_more : (word bytes old now rest next : List ℕ) (n : ℕ) (after : List ℕ) → Grows word bytes old now rest
+    → small_behind word rest ≡ Some (n, after)
     → next ≡ now ++ n ∷ [] → Grows word bytes old next after
 grows_more word bytes old now rest next n after g read pushed =
     record {
@@ -46,13 +48,16 @@ grows_more word bytes old now rest next n after g read pushed =
       grown = pushed ∙ ap (λ (v : List ℕ). v ++ n ∷ []) g.grown ∙ append_assoc old g.numbers (n ∷ []);
     }
 
-pub takes_all : (word bytes old now rest : List ℕ) → Grows word bytes old now rest → small_behind word rest ≡ None → TakesAll word bytes old now rest
+pub takes_all : (word bytes old now rest : List ℕ) → Grows word bytes old now rest → small_behind word rest ≡ None
+    → TakesAll word bytes old now rest
 takes_all word bytes old now rest g none = record { numbers = g.numbers; taken = g.taken; grown = g.grown; ends = none }
 
 -- ---- the numbers of a text, each behind a word that begins with a space
 
-regroup : (word : List ℕ) (n : ℕ) (ns rest : List ℕ) → flat_map (behind word) (n ∷ ns) ++ rest ≡ word ++ decimal n ++ (flat_map (behind word) ns ++ rest)
-regroup word n ns rest = ap (λ (v : List ℕ). v ++ rest) (flat_map-cons (behind word) n ns) ∙ append_assoc (word ++ decimal n) (flat_map (behind word) ns) rest
+regroup : (word : List ℕ) (n : ℕ) (ns rest : List ℕ)
+    → flat_map (behind word) (n ∷ ns) ++ rest ≡ word ++ decimal n ++ (flat_map (behind word) ns ++ rest)
+regroup word n ns rest = ap (λ (v : List ℕ). v ++ rest) (flat_map-cons (behind word) n ns)
+    ∙ append_assoc (word ++ decimal n) (flat_map (behind word) ns) rest
 
 chain_text : (word s : List ℕ) (ns t : List ℕ) → Chain (TakesOne word) s ns t → AreSmall ns × (s ≡ flat_map (behind word) ns ++ t)
 chain_text word s [] t c = (tt, c)
@@ -69,8 +74,10 @@ module _ (tail : List ℕ) where
   begins [] = tt
   begins (n ∷ ns) = subst BeginsWithoutDigit (sym (flat_map-cons (behind word) n ns)) refl
 
-  first_again : (n : ℕ) (ns : List ℕ) → n < 2 ^ 32 → small_behind word (flat_map (behind word) (n ∷ ns)) ≡ Some (n, flat_map (behind word) ns)
-  first_again n ns small = ap (small_behind word) (flat_map-cons (behind word) n ns) ∙ behind_again word n (flat_map (behind word) ns) small (begins ns)
+  first_again : (n : ℕ) (ns : List ℕ) → n < 2 ^ 32
+      → small_behind word (flat_map (behind word) (n ∷ ns)) ≡ Some (n, flat_map (behind word) ns)
+  first_again n ns small = ap (small_behind word) (flat_map-cons (behind word) n ns)
+      ∙ behind_again word n (flat_map (behind word) ns) small (begins ns)
 
   none_of_nothing : small_behind word [] ≡ None
   unfolding small_behind word_at
@@ -81,17 +88,21 @@ module _ (tail : List ℕ) where
   chain_of (n ∷ ns) small = (flat_map (behind word) ns, first_again n ns small.0, chain_of ns small.1)
 
   -- where no number follows, what was taken is all
-  pub all_taken : (s : List ℕ) (ns t ms : List ℕ) → Chain (TakesOne word) s ns t → small_behind word t ≡ None → AreSmall ms → s ≡ flat_map (behind word) ms
+  pub all_taken : (s : List ℕ) (ns t ms : List ℕ) → Chain (TakesOne word) s ns t → small_behind word t ≡ None → AreSmall ms
+      → s ≡ flat_map (behind word) ms
       → (ns ≡ ms) × (t ≡ [])
   all_taken s [] t [] c none small e = (refl, sym c ∙ e)
   all_taken s [] t (m ∷ ms) c none small e =
-      let found : ◌≡◌ {A = Option (ℕ × List ℕ)} None (Some (m, flat_map (behind word) ms)) = sym none ∙ ap (small_behind word) (sym c ∙ e) ∙ first_again m ms small.0 in
+      let found : ◌≡◌ {A = Option (ℕ × List ℕ)} None (Some (m, flat_map (behind word) ms)) = sym none
+      ∙ ap (small_behind word) (sym c ∙ e) ∙ first_again m ms small.0 in
       absurd cc
   all_taken s (n ∷ ns) t [] c none small e =
-      let found : ◌≡◌ {A = Option (ℕ × List ℕ)} None (Some (n, c.0)) = sym none_of_nothing ∙ ap (small_behind word) (sym e) ∙ c.1 in
+      let found : ◌≡◌ {A = Option (ℕ × List ℕ)} None (Some (n, c.0)) = sym none_of_nothing ∙ ap (small_behind word) (sym e)
+      ∙ c.1 in
       absurd cc
   all_taken s (n ∷ ns) t (m ∷ ms) c none small e =
-      let same = some_pair_parts n m c.0 (flat_map (behind word) ms) (sym c.1 ∙ ap (small_behind word) e ∙ first_again m ms small.0) in
+      let same = some_pair_parts n m c.0 (flat_map (behind word) ms) (sym c.1 ∙ ap (small_behind word) e
+      ∙ first_again m ms small.0) in
       let others = all_taken c.0 ns t ms c.2 none small.1 same.1 in
       (ap (λ (k : ℕ). k ∷ ns) same.0 ∙ ap (λ (v : List ℕ). m ∷ v) others.0, others.1)
 
@@ -102,12 +113,17 @@ module _ (tail : List ℕ) where
   IsOneLine-all [] one small = tt
   IsOneLine-all (n ∷ ns) one small =
       subst IsOneLine (sym (flat_map-cons (behind word) n ns))
-      (IsOneLine-append (word ++ decimal n) (flat_map (behind word) ns) (IsOneLine-append word (decimal n) one (IsOneLine-small n small.0)) (IsOneLine-all ns one small.1))
+      (IsOneLine-append (word ++ decimal n) (flat_map (behind word) ns)
+      (IsOneLine-append word (decimal n) one (IsOneLine-small n small.0)) (IsOneLine-all ns one small.1))
 
-  pub text_of_all : (bytes old new rest : List ℕ) (t : TakesAll word bytes old new rest) → rest ≡ [] → AreSmall t.numbers × (bytes ≡ flat_map (behind word) t.numbers)
+  pub text_of_all : (bytes old new rest : List ℕ) (t : TakesAll word bytes old new rest) → rest ≡ []
+      → AreSmall t.numbers × (bytes ≡ flat_map (behind word) t.numbers)
   text_of_all bytes old new rest t ended =
-      let c = chain_text word bytes t.numbers rest t.taken in
-      (c.0, c.1 ∙ ap (λ (v : List ℕ). flat_map (behind word) t.numbers ++ v) ended ∙ append-nil (flat_map (behind word) t.numbers))
+      let c = chain_text word bytes t.numbers rest t.taken in (
+        c.0,
+        c.1 ∙ ap (λ (v : List ℕ). flat_map (behind word) t.numbers ++ v) ended
+            ∙ append-nil (flat_map (behind word) t.numbers),
+      )
 
 -- ---- a line of numbers
 
@@ -127,10 +143,12 @@ first_is l ls small = small_again l (flat_map spaced ls) small (begins [] ls)
 pub no_first : (line : List ℕ) → (line ≡ [] → ⊥) → small_at line ≡ None → (ns : List ℕ) → AreSmall ns → line ≡ clause_words ns → ⊥
 no_first line some none [] small e = some e
 no_first line some none (l ∷ ls) small e =
-    let found : ◌≡◌ {A = Option (ℕ × List ℕ)} None (Some (l, flat_map spaced ls)) = sym none ∙ ap small_at e ∙ first_is l ls small.0 in
+    let found : ◌≡◌ {A = Option (ℕ × List ℕ)} None (Some (l, flat_map spaced ls)) = sym none ∙ ap small_at e
+    ∙ first_is l ls small.0 in
     absurd cc
 
-pub more_behind : (line : List ℕ) (first : ℕ) (mid old new rest : List ℕ) → small_at line ≡ Some (first, mid) → TakesAll (codes " ") mid old new rest → (rest ≡ [] → ⊥)
+pub more_behind : (line : List ℕ) (first : ℕ) (mid old new rest : List ℕ) → small_at line ≡ Some (first, mid)
+    → TakesAll (codes " ") mid old new rest → (rest ≡ [] → ⊥)
     → (ns : List ℕ) → AreSmall ns → line ≡ clause_words ns → ⊥
 more_behind line first mid old new rest read t some [] small e =
     let parts = (small_takes line first mid read).parts in
@@ -139,7 +157,8 @@ more_behind line first mid old new rest read t some (l ∷ ls) small e =
     let same = some_pair_parts first l mid (flat_map spaced ls) (sym read ∙ ap small_at e ∙ first_is l ls small.0) in
     some (all_taken [] mid t.numbers rest ls t.taken t.ends small.1 same.1).1
 
-pub are_numbers : (line : List ℕ) (first : ℕ) (mid old new rest : List ℕ) → small_at line ≡ Some (first, mid) → TakesAll (codes " ") mid old new rest → rest ≡ []
+pub are_numbers : (line : List ℕ) (first : ℕ) (mid old new rest : List ℕ) → small_at line ≡ Some (first, mid)
+    → TakesAll (codes " ") mid old new rest → rest ≡ []
     → old ≡ first ∷ [] → AreNumbers true line new
 are_numbers line first mid old new rest read t ended begun =
     let s = small_takes line first mid read in
@@ -152,13 +171,15 @@ numbers_same [] [] sn sm e = refl
 numbers_same [] (m ∷ ms) sn sm e = absurd (decimal_some m sm.0 (flat_map spaced ms) e)
 numbers_same (n ∷ ns) [] sn sm e = absurd (decimal_some n sn.0 (flat_map spaced ns) (sym e))
 numbers_same (n ∷ ns) (m ∷ ms) sn sm e =
-    let same = some_pair_parts n m (flat_map spaced ns) (flat_map spaced ms) (sym (first_is n ns sn.0) ∙ ap small_at e ∙ first_is m ms sm.0) in
+    let same = some_pair_parts n m (flat_map spaced ns) (flat_map spaced ms) (sym (first_is n ns sn.0) ∙ ap small_at e
+    ∙ first_is m ms sm.0) in
     ap (λ (k : ℕ). k ∷ ns) same.0 ∙ ap (λ (v : List ℕ). m ∷ v) (flat_same [] ns ms sn.1 sm.1 same.1)
 
 IsOneLine-clause : (ns : List ℕ) → AreSmall ns → IsOneLine (clause_words ns)
 IsOneLine-clause [] small = tt
 IsOneLine-clause (n ∷ ns) small =
-    IsOneLine-append (decimal n) (flat_map spaced ns) (IsOneLine-small n small.0) (IsOneLine-all [] ns (IsOneLine-tested (codes " ") refl) small.1)
+    IsOneLine-append (decimal n) (flat_map spaced ns) (IsOneLine-small n small.0)
+    (IsOneLine-all [] ns (IsOneLine-tested (codes " ") refl) small.1)
 
 pub clause_are_words : (vars : ℕ) → IsWords (IsHeldClause vars) clause_words
 clause_are_words vars = record {
@@ -178,18 +199,21 @@ lit_within vars l e = grind (arith, nat_tests)
 lit_tested : (vars l : ℕ) → (2 ≤ l) × (l ≤ 2 * vars + 1) → (leb 2 l && leb l (2 * vars + 1)) ≡ true
 lit_tested vars l h = grind (arith, nat_tests)
 
-pub lits_within : (vars : ℕ) (ls : List ℕ) → list_all (λ l. leb 2 l && leb l (2 * vars + 1)) ls ≡ true → AllByRecursion (λ l. (2 ≤ l) × (l ≤ 2 * vars + 1)) ls
+pub lits_within : (vars : ℕ) (ls : List ℕ) → list_all (λ l. leb 2 l && leb l (2 * vars + 1)) ls ≡ true
+    → AllByRecursion (λ l. (2 ≤ l) × (l ≤ 2 * vars + 1)) ls
 lits_within vars [] e = tt
 lits_within vars (l ∷ ls) e =
     let both = both_true (leb 2 l && leb l (2 * vars + 1)) (list_all (λ k. leb 2 k && leb k (2 * vars + 1)) ls) e in
     (lit_within vars l both.0, lits_within vars ls both.1)
 
-pub lits_tested : (vars : ℕ) (ls : List ℕ) → AllByRecursion (λ l. (2 ≤ l) × (l ≤ 2 * vars + 1)) ls → list_all (λ l. leb 2 l && leb l (2 * vars + 1)) ls ≡ true
+pub lits_tested : (vars : ℕ) (ls : List ℕ) → AllByRecursion (λ l. (2 ≤ l) × (l ≤ 2 * vars + 1)) ls
+    → list_all (λ l. leb 2 l && leb l (2 * vars + 1)) ls ≡ true
 lits_tested vars [] h = refl
 lits_tested vars (l ∷ ls) h = rw (lit_tested vars l h.0, lits_tested vars ls h.1) refl
 
 -- the numbers of a line are no clause where a test of them fails
-pub no_clause : (vars : ℕ) (line numbers : List ℕ) → AreNumbers true line numbers → (IsReportClause vars numbers → ⊥) → (c : List ℕ) → IsHeldClause vars c → line ≡ clause_words c → ⊥
+pub no_clause : (vars : ℕ) (line numbers : List ℕ) → AreNumbers true line numbers → (IsReportClause vars numbers → ⊥)
+    → (c : List ℕ) → IsHeldClause vars c → line ≡ clause_words c → ⊥
 no_clause vars line numbers are wrong c h e =
     let same = numbers_same numbers c are.0 h.small (sym are.1 ∙ e) in
     wrong (subst (IsReportClause vars) (sym same) h.form)
@@ -219,16 +243,19 @@ members_tested count (p ∷ ps) h = rw (under p count h.0, members_tested count 
     under : (p n : ℕ) → p < n → ltb p n ≡ true
     under p n h = grind (arith, nat_tests)
 
-set_again : (count : ℕ) (line : List ℕ) (set : List ℕ) → line ≡ set_words set → word_at (codes "set") line ≡ Some (flat_map member_words set)
+set_again : (count : ℕ) (line : List ℕ) (set : List ℕ) → line ≡ set_words set
+    → word_at (codes "set") line ≡ Some (flat_map member_words set)
 set_again count line set e = ap (word_at (codes "set")) e ∙ word_again (codes "set") (flat_map member_words set)
 
-pub no_set_word : (count : ℕ) (line : List ℕ) → word_at (codes "set") line ≡ None → (set : List ℕ) → IsSet count set → line ≡ set_words set → ⊥
+pub no_set_word : (count : ℕ) (line : List ℕ) → word_at (codes "set") line ≡ None → (set : List ℕ) → IsSet count set
+    → line ≡ set_words set → ⊥
 no_set_word count line none set h e =
     let found : ◌≡◌ {A = Option (List ℕ)} None (Some (flat_map member_words set)) = sym none ∙ set_again count line set e in
     absurd cc
 
 -- the properties that were taken are those of each set with these words, and nothing follows
-pub set_taken : (count : ℕ) (line mid props rest : List ℕ) → count < 2 ^ 32 → word_at (codes "set") line ≡ Some mid → TakesAll (codes " b") mid [] props rest
+pub set_taken : (count : ℕ) (line mid props rest : List ℕ) → count < 2 ^ 32 → word_at (codes "set") line ≡ Some mid
+    → TakesAll (codes " b") mid [] props rest
     → (set : List ℕ) → IsSet count set → line ≡ set_words set → (props ≡ set) × (rest ≡ [])
 set_taken count line mid props rest small read t set h e =
     let found : Some mid ≡ Some (flat_map member_words set) = sym read ∙ set_again count line set e in
@@ -236,10 +263,12 @@ set_taken count line mid props rest small read t set h e =
     let all = all_taken (98 ∷ []) mid t.numbers rest set t.taken t.ends (below_small count set small h.within) same in
     (t.grown ∙ all.0, all.1)
 
-pub set_text : (line mid props rest : List ℕ) → word_at (codes "set") line ≡ Some mid → TakesAll (codes " b") mid [] props rest → rest ≡ [] → line ≡ set_words props
+pub set_text : (line mid props rest : List ℕ) → word_at (codes "set") line ≡ Some mid → TakesAll (codes " b") mid [] props rest
+    → rest ≡ [] → line ≡ set_words props
 set_text line mid props rest read t ended =
     let all = text_of_all (98 ∷ []) mid [] props rest t ended in
-    word_takes (codes "set") line mid read ∙ ap (λ (v : List ℕ). codes "set" ++ v) (all.1 ∙ ap (flat_map member_words) (sym t.grown))
+    word_takes (codes "set") line mid read
+    ∙ ap (λ (v : List ℕ). codes "set" ++ v) (all.1 ∙ ap (flat_map member_words) (sym t.grown))
 
 pub set_are_words : (count : ℕ) → count < 2 ^ 32 → IsWords (IsSet count) set_words
 set_are_words count small = record {
@@ -248,7 +277,8 @@ set_are_words count small = record {
       (IsOneLine-all (98 ∷ []) set (IsOneLine-tested (codes " b") refl) (below_small count set small h.within));
   same = λ s t hs ht e.
       let found : Some (flat_map member_words s) ≡ Some (flat_map member_words t)
-      = sym (word_again (codes "set") (flat_map member_words s)) ∙ ap (word_at (codes "set")) e ∙ word_again (codes "set") (flat_map member_words t) in
+      = sym (word_again (codes "set") (flat_map member_words s)) ∙ ap (word_at (codes "set")) e
+      ∙ word_again (codes "set") (flat_map member_words t) in
       let same : flat_map (behind (codes " b")) s ≡ flat_map (behind (codes " b")) t = cc in
       flat_same (98 ∷ []) s t (below_small count s small hs.within) (below_small count t small ht.within) same;
 }
@@ -264,34 +294,44 @@ not_empty xs b is some e =
 pub is_nothing : {A : Type 0} (xs : List A) (b : Bool) → b ≡ eqb (length xs) 0 → b ≡ true → xs ≡ []
 is_nothing xs b is empty = nil_from_length xs (eqb-true (length xs) 0 (sym is ∙ empty))
 
-pub numbers_end : (b : Bool) (line : List ℕ) (first : ℕ) (mid old new rest : List ℕ) → b ≡ eqb (length rest) 0 → small_at line ≡ Some (first, mid)
+pub numbers_end : (b : Bool) (line : List ℕ) (first : ℕ) (mid old new rest : List ℕ) → b ≡ eqb (length rest) 0
+    → small_at line ≡ Some (first, mid)
     → TakesAll (codes " ") mid old new rest → old ≡ first ∷ [] → AreNumbers b line new
-numbers_end true line first mid old new rest is read t begun = are_numbers line first mid old new rest read t (is_nothing rest true is refl) begun
-numbers_end false line first mid old new rest is read t begun = more_behind line first mid old new rest read t (not_empty rest false is refl)
+numbers_end true line first mid old new rest is read t begun = are_numbers line first mid old new rest read t
+    (is_nothing rest true is refl) begun
+numbers_end false line first mid old new rest is read t begun = more_behind line first mid old new rest read t
+    (not_empty rest false is refl)
 
-pub clause_found : (vars : ℕ) (line numbers clause : List ℕ) → AreNumbers true line numbers → IsReportClause vars numbers → clause ≡ numbers
+pub clause_found : (vars : ℕ) (line numbers clause : List ℕ) → AreNumbers true line numbers → IsReportClause vars numbers
+    → clause ≡ numbers
     → IsHeldClause vars clause × (line ≡ clause_words clause)
 clause_found vars line numbers clause are form e =
     subst (λ (c : List ℕ). IsHeldClause vars c × (line ≡ clause_words c)) (sym e) (record { form = form; small = are.0 }, are.1)
 
 -- what a test says of literals that ascend
-pub clause_tested : (b : Bool) (vars : ℕ) (lits : List ℕ) → IsStrictlyIncreasing lits → b ≡ list_all (λ l. leb 2 l && leb l (2 * vars + 1)) lits
+pub clause_tested : (b : Bool) (vars : ℕ) (lits : List ℕ) → IsStrictlyIncreasing lits
+    → b ≡ list_all (λ l. leb 2 l && leb l (2 * vars + 1)) lits
     → IsTrue b ↔ IsReportClause vars lits
 clause_tested b vars lits up is =
     ((λ e. record { ascends = up; within = lits_within vars lits (sym is ∙ e) }), (λ h. is ∙ lits_tested vars lits h.within))
 
 -- and of properties that ascend
-pub set_tested : (b : Bool) (count : ℕ) (props : List ℕ) → IsStrictlyIncreasing props → b ≡ list_all (λ p. ltb p count) props → IsTrue b ↔ IsSet count props
-set_tested b count props up is =
-    ((λ e. record { ascends = up; within = members_below count props (sym is ∙ e) }), (λ h. is ∙ members_tested count props h.within))
+pub set_tested : (b : Bool) (count : ℕ) (props : List ℕ) → IsStrictlyIncreasing props → b ≡ list_all (λ p. ltb p count) props
+    → IsTrue b ↔ IsSet count props
+set_tested b count props up is = (
+  (λ e. record { ascends = up; within = members_below count props (sym is ∙ e) }),
+  (λ h. is ∙ members_tested count props h.within),
+)
 
 -- what was taken is no set where a test says so, or where something follows
-pub no_set : (count : ℕ) (line mid props rest : List ℕ) → count < 2 ^ 32 → word_at (codes "set") line ≡ Some mid → TakesAll (codes " b") mid [] props rest
+pub no_set : (count : ℕ) (line mid props rest : List ℕ) → count < 2 ^ 32 → word_at (codes "set") line ≡ Some mid
+    → TakesAll (codes " b") mid [] props rest
     → (IsSet count props → ⊥) → (set : List ℕ) → IsSet count set → line ≡ set_words set → ⊥
 no_set count line mid props rest small read t wrong set h e =
     let same = (set_taken count line mid props rest small read t set h e).0 in
     wrong (subst (IsSet count) (sym same) h)
 
-pub no_set_end : (count : ℕ) (line mid props rest : List ℕ) → count < 2 ^ 32 → word_at (codes "set") line ≡ Some mid → TakesAll (codes " b") mid [] props rest
+pub no_set_end : (count : ℕ) (line mid props rest : List ℕ) → count < 2 ^ 32 → word_at (codes "set") line ≡ Some mid
+    → TakesAll (codes " b") mid [] props rest
     → (rest ≡ [] → ⊥) → (set : List ℕ) → IsSet count set → line ≡ set_words set → ⊥
 no_set_end count line mid props rest small read t more set h e = more (set_taken count line mid props rest small read t set h e).1

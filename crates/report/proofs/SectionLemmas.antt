@@ -25,7 +25,14 @@ some_count word = (0, omega arith)
 pub some_sizes : HasSome sizes_form
 some_sizes = (
   record { vars = 0; inputs = 0; latches = 0; gates = 0; props = 0; constraints = 0 },
-  record { vars = omega arith; inputs = omega arith; latches = omega arith; gates = omega arith; props = omega arith; constraints = omega arith },
+  record {
+    vars = omega arith;
+    inputs = omega arith;
+    latches = omega arith;
+    gates = omega arith;
+    props = omega arith;
+    constraints = omega arith;
+  },
 )
 
 pub some_prop : (p : ℕ) → HasSome (prop_form p)
@@ -47,7 +54,8 @@ some_journal clauses = (None, tt)
 
 pub props_met : IsMet prop_form (λ q _. q + 1) (λ n q. q + n ≤ 4294967296)
 props_met = record {
-  sound = λ n q m. line_sound (λ l. IsSmallMark l.mark) (prop_words q) (read_words (prop_read q (omega (arith, m)))) (some_prop q);
+  sound = λ n q m. line_sound (λ l. IsSmallMark l.mark) (prop_words q) (read_words (prop_read q (omega (arith, m))))
+      (some_prop q);
   goes_on = λ n q x m fits. omega (arith, m);
 }
 
@@ -59,19 +67,23 @@ props_state q (l ∷ ls) = props_state (q + 1) ls ∙ omega arith
 props_at : (i : ℕ) (ls : List PropLine) → length ls ≡ i → state_behind prop_form (λ k _. k + 1) 0 ls ≡ i
 props_at i ls len = props_state 0 ls ∙ omega (arith, len)
 
-pub props_more : (bytes : List ℕ) (i : ℕ) (ls : List PropLine) (rest : List ℕ) (l : PropLine) (after : List ℕ) → Takes (props_form i 0) bytes ls rest
+pub props_more : (bytes : List ℕ) (i : ℕ) (ls : List PropLine) (rest : List ℕ) (l : PropLine) (after : List ℕ)
+    → Takes (props_form i 0) bytes ls rest
     → Takes (prop_form i) rest l after → Takes (props_form (i + 1) 0) bytes (ls ++ l ∷ []) after
 props_more bytes i ls rest l after t u =
-    times_more prop_form (λ q _. q + 1) 0 bytes i ls rest l after t (subst (λ (k : ℕ). Takes (prop_form k) rest l after) (sym (props_at i ls t.fits.as_many)) u)
+    times_more prop_form (λ q _. q + 1) 0 bytes i ls rest l after t
+    (subst (λ (k : ℕ). Takes (prop_form k) rest l after) (sym (props_at i ls t.fits.as_many)) u)
 
 pub props_ends : (count : ℕ) (bytes : List ℕ) (i : ℕ) (ls : List PropLine) (rest : List ℕ) (left : ℕ) → count < 2 ^ 32 → i < count
     → Takes (props_form i 0) bytes ls rest → Stops (prop_form i) rest left → Stops (props_form count 0) bytes left
 props_ends count bytes i ls rest left small less t stop =
-    times_ends prop_form (λ q _. q + 1) (λ n q. q + n ≤ 4294967296) props_met count 0 bytes i ls rest left (omega (arith, small)) less t
+    times_ends prop_form (λ q _. q + 1) (λ n q. q + n ≤ 4294967296) props_met count 0 bytes i ls rest left (omega (arith, small))
+    less t
     (subst (λ (k : ℕ). Stops (prop_form k) rest left) (sym (props_at i ls t.fits.as_many)) stop)
 
 pub props_sound : (count : ℕ) → count < 2 ^ 32 → IsSound (props_form count 0)
-props_sound count small = times_sound prop_form (λ q _. q + 1) (λ n q. q + n ≤ 4294967296) props_met count 0 (omega (arith, small))
+props_sound count small = times_sound prop_form (λ q _. q + 1) (λ n q. q + n ≤ 4294967296) props_met count 0
+    (omega (arith, small))
 
 -- ---- clauses and sets
 
@@ -90,19 +102,24 @@ clauses_met vars = record {
   goes_on = λ n s x m fits. tt;
 }
 
-pub clauses_more : (vars : ℕ) (bytes : List ℕ) (i : ℕ) (cs : List (List ℕ)) (rest clause after : List ℕ) → Takes (clause_lines_form vars i) bytes cs rest
+pub clauses_more : (vars : ℕ) (bytes : List ℕ) (i : ℕ) (cs : List (List ℕ)) (rest clause after : List ℕ)
+    → Takes (clause_lines_form vars i) bytes cs rest
     → Takes (clause_form vars) rest clause after → Takes (clause_lines_form vars (i + 1)) bytes (cs ++ clause ∷ []) after
-clauses_more vars bytes i cs rest clause after t u = times_more {S = ⊤} (λ _. clause_form vars) (λ s _. s) tt bytes i cs rest clause after t u
+clauses_more vars bytes i cs rest clause after t u = times_more {S = ⊤} (λ _. clause_form vars) (λ s _. s) tt bytes i cs rest
+    clause after t u
 
 pub clauses_end : (vars count : ℕ) (bytes : List ℕ) (i : ℕ) (cs : List (List ℕ)) (rest : List ℕ) (left : ℕ) → i < count
-    → Takes (clause_lines_form vars i) bytes cs rest → Stops (clause_form vars) rest left → Stops (clause_lines_form vars count) bytes left
+    → Takes (clause_lines_form vars i) bytes cs rest → Stops (clause_form vars) rest left
+    → Stops (clause_lines_form vars count) bytes left
 clauses_end vars count bytes i cs rest left less t stop =
-    times_ends {S = ⊤} (λ _. clause_form vars) (λ s _. s) (λ _ _. ⊤) (clauses_met vars) count tt bytes i cs rest left tt less t stop
+    times_ends {S = ⊤} (λ _. clause_form vars) (λ s _. s) (λ _ _. ⊤) (clauses_met vars) count tt bytes i cs rest left tt less t
+    stop
 
 pub clauses_sound : (vars count : ℕ) → IsSound (clause_lines_form vars count)
 clauses_sound vars count = times_sound {S = ⊤} (λ _. clause_form vars) (λ s _. s) (λ _ _. ⊤) (clauses_met vars) count tt tt
 
 pub clause_count_sound : IsSound (count_form (codes "clauses "))
 clause_count_sound =
-    line_sound (λ n. n < 2 ^ 32) (λ n. codes "clauses " ++ decimal n) (read_words (count_read (codes "clauses ") (IsOneLine-tested (codes "clauses ") refl)))
+    line_sound (λ n. n < 2 ^ 32) (λ n. codes "clauses " ++ decimal n)
+    (read_words (count_read (codes "clauses ") (IsOneLine-tested (codes "clauses ") refl)))
     (some_count (codes "clauses "))

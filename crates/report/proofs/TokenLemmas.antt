@@ -17,7 +17,8 @@ use Rattle.report.specs.Entries.{IsSmallMark, mark_words}
 use Rattle.report.specs.Tokens.{◌>>=◌, has_leading_zero, greatest, is_beyond, exact_at, small_at, small_behind, budget_at, first_mark, mark_at}
 
 -- what was read first, where something was read
-pub bind_some : {A B : Type 0} (o : Option A) (f : A → Option B) (y : B) → (o >>= f) ≡ Some y → (x : A) × (o ≡ Some x) × (f x ≡ Some y)
+pub bind_some : {A B : Type 0} (o : Option A) (f : A → Option B) (y : B) → (o >>= f) ≡ Some y
+    → (x : A) × (o ≡ Some x) × (f x ≡ Some y)
 bind_some None f y e = absurd cc
 bind_some (Some x) f y e = (x, refl, e)
 
@@ -32,7 +33,8 @@ or_false false c e = (refl, e)
 
 -- ---- zeros in front
 
-zero_only : (d : ℕ) (ds rest : List ℕ) → IsNumber (d ∷ ds) (value_of (d ∷ ds)) → has_leading_zero ((d ∷ ds) ++ rest) ≡ false → d ≡ 48 → d ∷ ds ≡ 48 ∷ []
+zero_only : (d : ℕ) (ds rest : List ℕ) → IsNumber (d ∷ ds) (value_of (d ∷ ds)) → has_leading_zero ((d ∷ ds) ++ rest) ≡ false
+    → d ≡ 48 → d ∷ ds ≡ 48 ∷ []
 zero_only d [] rest h e zero = ap (λ (k : ℕ). k ∷ []) zero
 zero_only d (c ∷ cs) rest h e zero =
     let digit : is_digit c ≡ true = digit_true c h.digits.1.0 in
@@ -40,7 +42,8 @@ zero_only d (c ∷ cs) rest h e zero =
     let both : (eqb d 48 && is_digit c) ≡ true = rw (first, digit) refl in
     absurd cc
 
-no_leading_zero : (text rest : List ℕ) → IsNumber text (value_of text) → has_leading_zero (text ++ rest) ≡ false → HasNoLeadingZero text
+no_leading_zero : (text rest : List ℕ) → IsNumber text (value_of text) → has_leading_zero (text ++ rest) ≡ false
+    → HasNoLeadingZero text
 no_leading_zero [] rest h e zero = absurd (omega (arith, h.some))
 no_leading_zero (d ∷ ds) rest h e zero = zero_only d ds rest h e zero
 
@@ -48,7 +51,8 @@ and_false : (b c : Bool) → c ≡ false → (b && c) ≡ false
 and_false true c e = e
 and_false false c e = refl
 
-no_zero : (text rest : List ℕ) → 0 < length text → HasNoLeadingZero text → BeginsWithoutDigit rest → has_leading_zero (text ++ rest) ≡ false
+no_zero : (text rest : List ℕ) → 0 < length text → HasNoLeadingZero text → BeginsWithoutDigit rest
+    → has_leading_zero (text ++ rest) ≡ false
 no_zero [] rest some leading ends = absurd (omega (arith, some))
 no_zero (d ∷ []) [] some leading ends = refl
 no_zero (d ∷ []) (b ∷ bs) some leading ends = and_false (eqb d 48) (is_digit b) ends
@@ -71,11 +75,13 @@ front_of : (text rest : List ℕ) → take (length (text ++ rest) - length rest)
 front_of text rest = take_at text rest (length (text ++ rest) - length rest) (omega (arith, length-append text rest))
 
 -- digits that are not beyond are those of the number
-written : (t : Bool) (text rest : List ℕ) (n : ℕ) → t ≡ eqb n 18446744073709551615 → IsNumber text n → has_leading_zero (text ++ rest) ≡ false
+written : (t : Bool) (text rest : List ℕ) (n : ℕ) → t ≡ eqb n 18446744073709551615 → IsNumber text n
+    → has_leading_zero (text ++ rest) ≡ false
     → (t && not (bytes_eq (take (length (text ++ rest) - length rest) (text ++ rest)) greatest)) ≡ false → text ≡ decimal n
 written true text rest n is number zero e =
     let most : n ≡ 18446744073709551615 = eqb-true n 18446744073709551615 (sym is) in
-    let same : bytes_eq text greatest ≡ true = same_front (bytes_eq text greatest) (subst (λ (k : List ℕ). not (bytes_eq k greatest) ≡ false) (front_of text rest) e) in
+    let same : bytes_eq text greatest ≡ true = same_front (bytes_eq text greatest)
+    (subst (λ (k : List ℕ). not (bytes_eq k greatest) ≡ false) (front_of text rest) e) in
     (bytes_eq-Decides text greatest).0 same ∙ sym decimal_greatest ∙ ap decimal (sym most)
   where
     same_front : (b : Bool) → not b ≡ false → b ≡ true
@@ -99,14 +105,22 @@ pub record IsExact (bytes : List ℕ) (n : ℕ) (rest : List ℕ) : Type 0 where
   pub parts : bytes ≡ decimal n ++ rest
   pub ends : BeginsWithoutDigit rest
 
-is_exact : (bytes : List ℕ) (n : ℕ) (rest : List ℕ) → TakesNumber bytes n rest → has_leading_zero bytes ≡ false → is_beyond bytes (n, rest) ≡ false
+is_exact : (bytes : List ℕ) (n : ℕ) (rest : List ℕ) → TakesNumber bytes n rest → has_leading_zero bytes ≡ false
+    → is_beyond bytes (n, rest) ≡ false
     → IsExact bytes n rest
 is_exact bytes n rest t zero beyond =
     let text = t.number.text in
-    let zero_text : has_leading_zero (text ++ rest) ≡ false = subst (λ (k : List ℕ). has_leading_zero k ≡ false) t.number.parts zero in
-    let beyond_text : is_beyond (text ++ rest) (n, rest) ≡ false = subst (λ (k : List ℕ). is_beyond k (n, rest) ≡ false) t.number.parts beyond in
+    let zero_text : has_leading_zero (text ++ rest) ≡ false = subst (λ (k : List ℕ). has_leading_zero k ≡ false) t.number.parts
+    zero in
+    let beyond_text : is_beyond (text ++ rest) (n, rest) ≡ false = subst (λ (k : List ℕ). is_beyond k (n, rest) ≡ false)
+    t.number.parts beyond in
     let is : text ≡ decimal n = written (eqb n 18446744073709551615) text rest n refl t.number.form zero_text beyond_text in
-    record { small = under n (value_of text) t.number.form.value; parts = t.number.parts ∙ ap (λ (k : List ℕ). k ++ rest) is; ends = t.ends }
+    record {
+      small = under n (value_of text) t.number.form.value;
+      parts = t.number.parts
+          ∙ ap (λ (k : List ℕ). k ++ rest) is;
+      ends = t.ends;
+    }
   where
     under : (n v : ℕ) → n ≡ min v 18446744073709551615 → n < 2 ^ 64
     under n v is = omega (arith, is)
@@ -128,7 +142,8 @@ not_beyond : (t : Bool) (n : ℕ) (rest : List ℕ) → t ≡ eqb n 184467440737
     → (t && not (bytes_eq (take (length (decimal n ++ rest) - length rest) (decimal n ++ rest)) greatest)) ≡ false
 not_beyond true n rest is =
     let most : n ≡ 18446744073709551615 = eqb-true n 18446744073709551615 (sym is) in
-    let front : take (length (decimal n ++ rest) - length rest) (decimal n ++ rest) ≡ greatest = front_of (decimal n) rest ∙ ap decimal most ∙ decimal_greatest in
+    let front : take (length (decimal n ++ rest) - length rest) (decimal n ++ rest) ≡ greatest = front_of (decimal n) rest
+    ∙ ap decimal most ∙ decimal_greatest in
     let same : bytes_eq (take (length (decimal n ++ rest) - length rest) (decimal n ++ rest)) greatest ≡ true
     = (bytes_eq-Decides (take (length (decimal n ++ rest) - length rest) (decimal n ++ rest)) greatest).1 front in
     ap not same
@@ -170,10 +185,15 @@ pub behind_takes : (word bytes : List ℕ) (n : ℕ) (rest : List ℕ) → small
 unfolding small_behind
 behind_takes word bytes n rest e =
     let digits = bind_some (word_at word bytes) small_at (n, rest) e in
-    let t = small_takes digits.0 n rest digits.2 in
-    (t.small, word_takes word bytes digits.0 digits.1 ∙ ap (λ (v : List ℕ). word ++ v) t.parts ∙ sym (append_assoc word (decimal n) rest), t.ends)
+    let t = small_takes digits.0 n rest digits.2 in (
+      t.small,
+      word_takes word bytes digits.0 digits.1 ∙ ap (λ (v : List ℕ). word ++ v) t.parts
+          ∙ sym (append_assoc word (decimal n) rest),
+      t.ends,
+    )
 
-pub behind_again : (word : List ℕ) (n : ℕ) (rest : List ℕ) → n < 2 ^ 32 → BeginsWithoutDigit rest → small_behind word (word ++ decimal n ++ rest) ≡ Some (n, rest)
+pub behind_again : (word : List ℕ) (n : ℕ) (rest : List ℕ) → n < 2 ^ 32 → BeginsWithoutDigit rest
+    → small_behind word (word ++ decimal n ++ rest) ≡ Some (n, rest)
 unfolding small_behind
 behind_again word n rest small ends =
     let found : word_at word (word ++ decimal n ++ rest) ≡ Some (decimal n ++ rest)
@@ -182,7 +202,8 @@ behind_again word n rest small ends =
 
 -- ---- marks
 
-budget_takes : (bytes : List ℕ) (m : Mark) (rest : List ℕ) → budget_at bytes ≡ Some (m, rest) → IsSmallMark m × (bytes ≡ mark_words m ++ rest)
+budget_takes : (bytes : List ℕ) (m : Mark) (rest : List ℕ) → budget_at bytes ≡ Some (m, rest)
+    → IsSmallMark m × (bytes ≡ mark_words m ++ rest)
 unfolding budget_at
 budget_takes bytes m rest e =
     let f : ℕ × List ℕ → Option (Mark × List ℕ) = λ x. Some (Budget x.0, x.1) in
@@ -197,7 +218,8 @@ budget_takes bytes m rest e =
     (subst (λ (v : List ℕ). IsSmallMark (Budget x.0.0) × (bytes ≡ mark_words (Budget x.0.0) ++ v)) same.1 (t.small, parts))
 
 first_takes : (bytes : List ℕ) (a b c : Option (List ℕ)) (d : Option (Mark × List ℕ)) (m : Mark) (rest : List ℕ)
-    → word_at (codes "proved") bytes ≡ a → word_at (codes "fails") bytes ≡ b → word_at (codes "unknown cancelled") bytes ≡ c → budget_at bytes ≡ d
+    → word_at (codes "proved") bytes ≡ a → word_at (codes "fails") bytes ≡ b → word_at (codes "unknown cancelled") bytes ≡ c
+    → budget_at bytes ≡ d
     → first_mark a b c d ≡ Some (m, rest) → IsSmallMark m × (bytes ≡ mark_words m ++ rest)
 first_takes bytes (Some r) b c d m rest ea eb ec ed e =
     let same = some_pair_parts Proved m r rest e in
@@ -213,18 +235,22 @@ first_takes bytes None None (Some r) d m rest ea eb ec ed e =
     (tt, word_takes (codes "unknown cancelled") bytes r ec ∙ ap (λ (v : List ℕ). codes "unknown cancelled" ++ v) same.1)
 first_takes bytes None None None d m rest ea eb ec ed e = budget_takes bytes m rest (ed ∙ e)
 
-pub mark_takes : (bytes : List ℕ) (m : Mark) (rest : List ℕ) → mark_at bytes ≡ Some (m, rest) → IsSmallMark m × (bytes ≡ mark_words m ++ rest)
+pub mark_takes : (bytes : List ℕ) (m : Mark) (rest : List ℕ) → mark_at bytes ≡ Some (m, rest)
+    → IsSmallMark m × (bytes ≡ mark_words m ++ rest)
 unfolding mark_at
 mark_takes bytes m rest e = first_takes bytes _ _ _ _ m rest refl refl refl refl e
 
-budget_again : (n : ℕ) (rest : List ℕ) → n < 2 ^ 64 → BeginsWithoutDigit rest → budget_at (mark_words (Budget n) ++ rest) ≡ Some (Budget n, rest)
+budget_again : (n : ℕ) (rest : List ℕ) → n < 2 ^ 64 → BeginsWithoutDigit rest
+    → budget_at (mark_words (Budget n) ++ rest) ≡ Some (Budget n, rest)
 unfolding budget_at
 budget_again n rest small ends =
     let word : word_at (codes "unknown budget ") (codes "unknown budget " ++ decimal n ++ rest) ≡ Some (decimal n ++ rest)
-    = ap (word_at (codes "unknown budget ")) (append_assoc (codes "unknown budget ") (decimal n) rest) ∙ word_again (codes "unknown budget ") (decimal n ++ rest) in
+    = ap (word_at (codes "unknown budget ")) (append_assoc (codes "unknown budget ") (decimal n) rest)
+    ∙ word_again (codes "unknown budget ") (decimal n ++ rest) in
     rw (word, exact_again n rest small ends) refl
 
-pub mark_again : (m : Mark) (rest : List ℕ) → IsSmallMark m → BeginsWithoutDigit rest → mark_at (mark_words m ++ rest) ≡ Some (m, rest)
+pub mark_again : (m : Mark) (rest : List ℕ) → IsSmallMark m → BeginsWithoutDigit rest
+    → mark_at (mark_words m ++ rest) ≡ Some (m, rest)
 unfolding mark_at word_at
 mark_again Proved rest small ends = refl
 mark_again Fails rest small ends = refl

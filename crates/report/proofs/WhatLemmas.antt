@@ -33,28 +33,34 @@ record IsTail (head bytes : List ℕ) (w : What) (rest : List ℕ) : Type 0 wher
 regroup : (a b c d : List ℕ) → a ++ b ++ c ++ d ≡ a ++ (b ++ (c ++ d))
 regroup a b c d = simp append_assoc
 
-behind_head : (head bytes mid : List ℕ) (w : What) (rest : List ℕ) → bytes ≡ head ++ mid → IsTail head mid w rest → IsWhat bytes w rest
+behind_head : (head bytes mid : List ℕ) (w : What) (rest : List ℕ) → bytes ≡ head ++ mid → IsTail head mid w rest
+    → IsWhat bytes w rest
 behind_head head bytes mid w rest e t = record {
   marks = t.marks;
   small = t.small;
-  parts = e ∙ ap (λ (v : List ℕ). v ++ mid) (sym t.begins) ∙ ap (λ (v : List ℕ). what_head w ++ v) t.parts ∙ sym (regroup (what_head w) (property_words (property_of w)) (what_tail w) rest);
+  parts = e ∙ ap (λ (v : List ℕ). v ++ mid) (sym t.begins) ∙ ap (λ (v : List ℕ). what_head w ++ v) t.parts
+      ∙ sym (regroup (what_head w) (property_words (property_of w)) (what_tail w) rest);
 }
 
-same_tail : (head bytes : List ℕ) (v w : What) (r rest : List ℕ) → ◌≡◌ {A = Option (What × List ℕ)} (Some (v, r)) (Some (w, rest)) → IsTail head bytes v r → IsTail head bytes w rest
+same_tail : (head bytes : List ℕ) (v w : What) (r rest : List ℕ) → ◌≡◌ {A = Option (What × List ℕ)} (Some (v, r)) (Some (w, rest))
+    → IsTail head bytes v r → IsTail head bytes w rest
 same_tail head bytes v w r rest e t =
     let same = some_pair_parts v w r rest e in
     subst (λ (x : What). IsTail head bytes x rest) same.0 (subst (λ (x : List ℕ). IsTail head bytes v x) same.1 t)
 
-same_what : (bytes : List ℕ) (v w : What) (r rest : List ℕ) → ◌≡◌ {A = Option (What × List ℕ)} (Some (v, r)) (Some (w, rest)) → IsWhat bytes v r → IsWhat bytes w rest
+same_what : (bytes : List ℕ) (v w : What) (r rest : List ℕ) → ◌≡◌ {A = Option (What × List ℕ)} (Some (v, r)) (Some (w, rest))
+    → IsWhat bytes v r → IsWhat bytes w rest
 same_what bytes v w r rest e t =
     let same = some_pair_parts v w r rest e in
     subst (λ (x : What). IsWhat bytes x rest) same.0 (subst (λ (x : List ℕ). IsWhat bytes v x) same.1 t)
 
-property_takes : (bytes : List ℕ) (p : ℕ) (rest : List ℕ) → property_at bytes ≡ Some (p, rest) → (p < 2 ^ 32) × (bytes ≡ property_word p ++ rest)
+property_takes : (bytes : List ℕ) (p : ℕ) (rest : List ℕ) → property_at bytes ≡ Some (p, rest)
+    → (p < 2 ^ 32) × (bytes ≡ property_word p ++ rest)
 unfolding property_at
 property_takes bytes p rest e = let t = behind_takes (codes "b") bytes p rest e in (t.0, t.1)
 
-had_takes : (bytes : List ℕ) (m : Mark) (rest : List ℕ) → had_at bytes ≡ Some (m, rest) → IsSmallMark m × (bytes ≡ codes " had " ++ (mark_words m ++ rest))
+had_takes : (bytes : List ℕ) (m : Mark) (rest : List ℕ) → had_at bytes ≡ Some (m, rest)
+    → IsSmallMark m × (bytes ≡ codes " had " ++ (mark_words m ++ rest))
 unfolding had_at
 had_takes bytes m rest e =
     let r = bind_some (word_at (codes " had ") bytes) mark_at (m, rest) e in
@@ -63,30 +69,42 @@ had_takes bytes m rest e =
 
 -- ---- draw
 
-draw_takes : (bytes mid : List ℕ) (a : Option (List ℕ)) (b : Option (ℕ × List ℕ)) (w : What) (rest : List ℕ) → bytes ≡ codes "draw " ++ mid → word_at (codes "none") mid ≡ a
+draw_takes : (bytes mid : List ℕ) (a : Option (List ℕ)) (b : Option (ℕ × List ℕ)) (w : What) (rest : List ℕ)
+    → bytes ≡ codes "draw " ++ mid → word_at (codes "none") mid ≡ a
     → property_at mid ≡ b → draw_behind a b ≡ Some (w, rest) → IsWhat bytes w rest
 draw_takes bytes mid (Some r) b w rest e ea eb h =
-    same_what bytes DrawsNone w r rest h (record { marks = tt; small = tt; parts = e ∙ ap (λ (v : List ℕ). codes "draw " ++ v) (word_takes (codes "none") mid r ea) })
+    same_what bytes DrawsNone w r rest h
+    (record {
+      marks = tt;
+      small = tt;
+      parts = e ∙ ap (λ (v : List ℕ). codes "draw " ++ v) (word_takes (codes "none") mid r ea);
+    })
 draw_takes bytes mid None (Some x) w rest e ea eb h =
     let t = property_takes mid x.0 x.1 eb in
-    same_what bytes (Draws x.0) w x.1 rest h (behind_head (codes "draw ") bytes mid (Draws x.0) x.1 e (record { begins = refl; marks = tt; small = t.0; parts = t.1 }))
+    same_what bytes (Draws x.0) w x.1 rest h
+    (behind_head (codes "draw ") bytes mid (Draws x.0) x.1 e (record { begins = refl; marks = tt; small = t.0; parts = t.1 }))
 draw_takes bytes mid None None w rest e ea eb h = absurd cc
 
 -- ---- settle
 
-settle_end : (mid : List ℕ) (p : ℕ) (m : Mark × List ℕ) (o : Option (Mark × List ℕ)) (w : What) (rest : List ℕ) → p < 2 ^ 32 → IsSmallMark m.0
-    → mid ≡ property_word p ++ 32 ∷ (mark_words m.0 ++ m.1) → had_at m.1 ≡ o → settle_behind p m o ≡ Some (w, rest) → IsTail (codes "settle ") mid w rest
+settle_end : (mid : List ℕ) (p : ℕ) (m : Mark × List ℕ) (o : Option (Mark × List ℕ)) (w : What) (rest : List ℕ) → p < 2 ^ 32
+    → IsSmallMark m.0
+    → mid ≡ property_word p ++ 32 ∷ (mark_words m.0 ++ m.1) → had_at m.1 ≡ o → settle_behind p m o ≡ Some (w, rest)
+    → IsTail (codes "settle ") mid w rest
 settle_end mid p m None w rest small mark parts eo h =
-    same_tail (codes "settle ") mid (Settles p m.0) w m.1 rest h (record { begins = refl; marks = mark; small = small; parts = parts })
+    same_tail (codes "settle ") mid (Settles p m.0) w m.1 rest h
+    (record { begins = refl; marks = mark; small = small; parts = parts })
 settle_end mid p m (Some had) w rest small mark parts eo h =
     let t = had_takes m.1 had.0 had.1 eo in
-    let tail = append_assoc (32 ∷ mark_words m.0 ++ codes " had ") (mark_words had.0) had.1 ∙ append_assoc (32 ∷ mark_words m.0) (codes " had ") (mark_words had.0 ++ had.1) in
+    let tail = append_assoc (32 ∷ mark_words m.0 ++ codes " had ") (mark_words had.0) had.1
+    ∙ append_assoc (32 ∷ mark_words m.0) (codes " had ") (mark_words had.0 ++ had.1) in
     same_tail (codes "settle ") mid (SettlesHad p m.0 had.0) w had.1 rest h
     (record {
       begins = refl;
       marks = (mark, t.0);
       small = small;
-      parts = parts ∙ ap (λ (v : List ℕ). property_word p ++ 32 ∷ (mark_words m.0 ++ v)) t.1 ∙ ap (λ (v : List ℕ). property_word p ++ v) (sym tail);
+      parts = parts ∙ ap (λ (v : List ℕ). property_word p ++ 32 ∷ (mark_words m.0 ++ v)) t.1
+          ∙ ap (λ (v : List ℕ). property_word p ++ v) (sym tail);
     })
 
 settle_takes : (mid : List ℕ) (w : What) (rest : List ℕ) → settle_at mid ≡ Some (w, rest) → IsTail (codes "settle ") mid w rest
@@ -103,14 +121,28 @@ settle_takes mid w rest e =
 
 -- ---- cancel and give up
 
-cancel_end : (mid : List ℕ) (p : ℕ) (behind : List ℕ) (a b : Option (List ℕ)) (w : What) (rest : List ℕ) → p < 2 ^ 32 → mid ≡ property_word p ++ behind
-    → word_at (codes " yes") behind ≡ a → word_at (codes " no") behind ≡ b → cancel_behind p a b ≡ Some (w, rest) → IsTail (codes "cancel ") mid w rest
+cancel_end : (mid : List ℕ) (p : ℕ) (behind : List ℕ) (a b : Option (List ℕ)) (w : What) (rest : List ℕ) → p < 2 ^ 32
+    → mid ≡ property_word p ++ behind
+    → word_at (codes " yes") behind ≡ a → word_at (codes " no") behind ≡ b → cancel_behind p a b ≡ Some (w, rest)
+    → IsTail (codes "cancel ") mid w rest
 cancel_end mid p behind (Some r) b w rest small parts ea eb h =
     same_tail (codes "cancel ") mid (Cancels p) w r rest h
-    (record { begins = refl; marks = tt; small = small; parts = parts ∙ ap (λ (v : List ℕ). property_word p ++ v) (word_takes (codes " yes") behind r ea) })
+    (record {
+      begins = refl;
+      marks = tt;
+      small = small;
+      parts = parts
+          ∙ ap (λ (v : List ℕ). property_word p ++ v) (word_takes (codes " yes") behind r ea);
+    })
 cancel_end mid p behind None (Some r) w rest small parts ea eb h =
     same_tail (codes "cancel ") mid (CancelsNot p) w r rest h
-    (record { begins = refl; marks = tt; small = small; parts = parts ∙ ap (λ (v : List ℕ). property_word p ++ v) (word_takes (codes " no") behind r eb) })
+    (record {
+      begins = refl;
+      marks = tt;
+      small = small;
+      parts = parts
+          ∙ ap (λ (v : List ℕ). property_word p ++ v) (word_takes (codes " no") behind r eb);
+    })
 cancel_end mid p behind None None w rest small parts ea eb h = absurd cc
 
 cancel_takes : (mid : List ℕ) (w : What) (rest : List ℕ) → cancel_at mid ≡ Some (w, rest) → IsTail (codes "cancel ") mid w rest
@@ -120,15 +152,28 @@ cancel_takes mid w rest e =
     let tp = property_takes mid p.0.0 p.0.1 p.1 in
     cancel_end mid p.0.0 p.0.1 (word_at (codes " yes") p.0.1) (word_at (codes " no") p.0.1) w rest tp.0 tp.1 refl refl p.2
 
-give_up_end : (mid : List ℕ) (p : ℕ) (behind : List ℕ) (a b : Option (List ℕ)) (o : Option (Mark × List ℕ)) (w : What) (rest : List ℕ) → p < 2 ^ 32
+give_up_end : (mid : List ℕ) (p : ℕ) (behind : List ℕ) (a b : Option (List ℕ)) (o : Option (Mark × List ℕ)) (w : What)
+    (rest : List ℕ) → p < 2 ^ 32
     → mid ≡ property_word p ++ behind → word_at (codes " yes") behind ≡ a → word_at (codes " goon") behind ≡ b → had_at behind ≡ o
     → give_up_behind p a b o ≡ Some (w, rest) → IsTail (codes "giveup ") mid w rest
 give_up_end mid p behind (Some r) b o w rest small parts ea eb eo h =
     same_tail (codes "giveup ") mid (GivesUp p) w r rest h
-    (record { begins = refl; marks = tt; small = small; parts = parts ∙ ap (λ (v : List ℕ). property_word p ++ v) (word_takes (codes " yes") behind r ea) })
+    (record {
+      begins = refl;
+      marks = tt;
+      small = small;
+      parts = parts
+          ∙ ap (λ (v : List ℕ). property_word p ++ v) (word_takes (codes " yes") behind r ea);
+    })
 give_up_end mid p behind None (Some r) o w rest small parts ea eb eo h =
     same_tail (codes "giveup ") mid (GoesOn p) w r rest h
-    (record { begins = refl; marks = tt; small = small; parts = parts ∙ ap (λ (v : List ℕ). property_word p ++ v) (word_takes (codes " goon") behind r eb) })
+    (record {
+      begins = refl;
+      marks = tt;
+      small = small;
+      parts = parts
+          ∙ ap (λ (v : List ℕ). property_word p ++ v) (word_takes (codes " goon") behind r eb);
+    })
 give_up_end mid p behind None None (Some had) w rest small parts ea eb eo h =
     let t = had_takes behind had.0 had.1 eo in
     same_tail (codes "giveup ") mid (GivesUpHad p had.0) w had.1 rest h
@@ -136,7 +181,8 @@ give_up_end mid p behind None None (Some had) w rest small parts ea eb eo h =
       begins = refl;
       marks = t.0;
       small = small;
-      parts = parts ∙ ap (λ (v : List ℕ). property_word p ++ v) (t.1 ∙ sym (append_assoc (codes " had ") (mark_words had.0) had.1));
+      parts = parts ∙ ap (λ (v : List ℕ). property_word p ++ v)
+          (t.1 ∙ sym (append_assoc (codes " had ") (mark_words had.0) had.1));
     })
 give_up_end mid p behind None None None w rest small parts ea eb eo h = absurd cc
 
@@ -145,12 +191,15 @@ unfolding give_up_at
 give_up_takes mid w rest e =
     let p = bind_some (property_at mid) _ (w, rest) e in
     let tp = property_takes mid p.0.0 p.0.1 p.1 in
-    give_up_end mid p.0.0 p.0.1 (word_at (codes " yes") p.0.1) (word_at (codes " goon") p.0.1) (had_at p.0.1) w rest tp.0 tp.1 refl refl refl p.2
+    give_up_end mid p.0.0 p.0.1 (word_at (codes " yes") p.0.1) (word_at (codes " goon") p.0.1) (had_at p.0.1) w rest tp.0 tp.1
+    refl refl refl p.2
 
 -- ---- all of them
 
-event_takes : (bytes : List ℕ) (a b c d e f : Option (List ℕ)) (w : What) (rest : List ℕ) → word_at (codes "draw ") bytes ≡ a → word_at (codes "import") bytes ≡ b
-    → word_at (codes "publish") bytes ≡ c → word_at (codes "settle ") bytes ≡ d → word_at (codes "cancel ") bytes ≡ e → word_at (codes "giveup ") bytes ≡ f
+event_takes : (bytes : List ℕ) (a b c d e f : Option (List ℕ)) (w : What) (rest : List ℕ) → word_at (codes "draw ") bytes ≡ a
+    → word_at (codes "import") bytes ≡ b
+    → word_at (codes "publish") bytes ≡ c → word_at (codes "settle ") bytes ≡ d → word_at (codes "cancel ") bytes ≡ e
+    → word_at (codes "giveup ") bytes ≡ f
     → first_event a b c d e f ≡ Some (w, rest) → IsWhat bytes w rest
 unfolding draw_at
 event_takes bytes (Some r) b c d e f w rest ea eb ec ed ee ef h =
@@ -181,39 +230,57 @@ no_had : (t : List ℕ) → had_at (at t) ≡ None
 unfolding had_at word_at
 no_had t = refl
 
-property_again : (p : ℕ) (rest : List ℕ) → p < 2 ^ 32 → BeginsWithoutDigit rest → property_at (property_word p ++ rest) ≡ Some (p, rest)
+property_again : (p : ℕ) (rest : List ℕ) → p < 2 ^ 32 → BeginsWithoutDigit rest
+    → property_at (property_word p ++ rest) ≡ Some (p, rest)
 unfolding property_at
 property_again p rest small ends = behind_again (codes "b") p rest small ends
 
-had_again : (m : Mark) (rest : List ℕ) → IsSmallMark m → BeginsWithoutDigit rest → had_at (codes " had " ++ (mark_words m ++ rest)) ≡ Some (m, rest)
+had_again : (m : Mark) (rest : List ℕ) → IsSmallMark m → BeginsWithoutDigit rest
+    → had_at (codes " had " ++ (mark_words m ++ rest)) ≡ Some (m, rest)
 unfolding had_at word_at
 had_again m rest small ends = mark_again m rest small ends
 
-settle_again : (p : ℕ) (m : Mark) (t : List ℕ) → p < 2 ^ 32 → IsSmallMark m → settle_at (property_word p ++ (32 ∷ mark_words m ++ at t)) ≡ Some (Settles p m, at t)
+settle_again : (p : ℕ) (m : Mark) (t : List ℕ) → p < 2 ^ 32 → IsSmallMark m
+    → settle_at (property_word p ++ (32 ∷ mark_words m ++ at t)) ≡ Some (Settles p m, at t)
 unfolding settle_at
 settle_again p m t small mark =
-    rw (property_again p (32 ∷ mark_words m ++ at t) small refl, space_again (mark_words m ++ at t), mark_again m (at t) mark refl, no_had t) refl
+    rw (
+      property_again p (32 ∷ mark_words m ++ at t) small refl,
+      space_again (mark_words m ++ at t),
+      mark_again m (at t) mark
+          refl,
+      no_had t,
+    ) refl
 
 settle_had_again : (p : ℕ) (m had : Mark) (t : List ℕ) → p < 2 ^ 32 → IsSmallMark m → IsSmallMark had
-    → settle_at (property_word p ++ (32 ∷ mark_words m ++ (codes " had " ++ (mark_words had ++ at t)))) ≡ Some (SettlesHad p m had, at t)
+    → settle_at (property_word p ++ (32 ∷ mark_words m ++ (codes " had " ++ (mark_words had ++ at t)))) ≡ Some
+    (SettlesHad p m had, at t)
 unfolding settle_at
 settle_had_again p m had t small mark stays =
     let rest = codes " had " ++ (mark_words had ++ at t) in
-    rw (property_again p (32 ∷ mark_words m ++ rest) small refl, space_again (mark_words m ++ rest), mark_again m rest mark refl, had_again had (at t) stays refl) refl
+    rw (
+      property_again p (32 ∷ mark_words m ++ rest) small refl,
+      space_again (mark_words m ++ rest),
+      mark_again m rest mark refl,
+      had_again had (at t) stays refl,
+    ) refl
 
 cancel_again : (p : ℕ) (t : List ℕ) → p < 2 ^ 32 → cancel_at (property_word p ++ (codes " yes" ++ at t)) ≡ Some (Cancels p, at t)
 unfolding cancel_at word_at
 cancel_again p t small = rw (property_again p (codes " yes" ++ at t) small refl) refl
 
-cancel_not_again : (p : ℕ) (t : List ℕ) → p < 2 ^ 32 → cancel_at (property_word p ++ (codes " no" ++ at t)) ≡ Some (CancelsNot p, at t)
+cancel_not_again : (p : ℕ) (t : List ℕ) → p < 2 ^ 32
+    → cancel_at (property_word p ++ (codes " no" ++ at t)) ≡ Some (CancelsNot p, at t)
 unfolding cancel_at word_at
 cancel_not_again p t small = rw (property_again p (codes " no" ++ at t) small refl) refl
 
-give_up_again : (p : ℕ) (t : List ℕ) → p < 2 ^ 32 → give_up_at (property_word p ++ (codes " yes" ++ at t)) ≡ Some (GivesUp p, at t)
+give_up_again : (p : ℕ) (t : List ℕ) → p < 2 ^ 32
+    → give_up_at (property_word p ++ (codes " yes" ++ at t)) ≡ Some (GivesUp p, at t)
 unfolding give_up_at word_at
 give_up_again p t small = rw (property_again p (codes " yes" ++ at t) small refl) refl
 
-goes_on_again : (p : ℕ) (t : List ℕ) → p < 2 ^ 32 → give_up_at (property_word p ++ (codes " goon" ++ at t)) ≡ Some (GoesOn p, at t)
+goes_on_again : (p : ℕ) (t : List ℕ) → p < 2 ^ 32
+    → give_up_at (property_word p ++ (codes " goon" ++ at t)) ≡ Some (GoesOn p, at t)
 unfolding give_up_at word_at
 goes_on_again p t small = rw (property_again p (codes " goon" ++ at t) small refl) refl
 
@@ -233,17 +300,21 @@ parts_again Publishes t marks small = refl
 parts_again (Settles p m) t marks small = settle_again p m t small marks
 parts_again (SettlesHad p m had) t marks small =
     ap (λ (v : List ℕ). settle_at (property_word p ++ v))
-    (append_assoc (32 ∷ mark_words m ++ codes " had ") (mark_words had) (at t) ∙ append_assoc (32 ∷ mark_words m) (codes " had ") (mark_words had ++ at t))
+    (append_assoc (32 ∷ mark_words m ++ codes " had ") (mark_words had) (at t)
+    ∙ append_assoc (32 ∷ mark_words m) (codes " had ") (mark_words had ++ at t))
     ∙ settle_had_again p m had t small marks.0 marks.1
 parts_again (Cancels p) t marks small = cancel_again p t small
 parts_again (CancelsNot p) t marks small = cancel_not_again p t small
 parts_again (GivesUp p) t marks small = give_up_again p t small
 parts_again (GoesOn p) t marks small = goes_on_again p t small
 parts_again (GivesUpHad p had) t marks small =
-    ap (λ (v : List ℕ). give_up_at (property_word p ++ v)) (append_assoc (codes " had ") (mark_words had) (at t)) ∙ give_up_had_again p had t small marks
+    ap (λ (v : List ℕ). give_up_at (property_word p ++ v)) (append_assoc (codes " had ") (mark_words had) (at t))
+    ∙ give_up_had_again p had t small marks
 
-what_again : (w : What) (t : List ℕ) → HasSmallMarks w → IfSome (property_of w) (λ p. p < 2 ^ 32) → what_at (what_words w ++ at t) ≡ Some (w, at t)
-what_again w t marks small = ap what_at (regroup (what_head w) (property_words (property_of w)) (what_tail w) (at t)) ∙ parts_again w t marks small
+what_again : (w : What) (t : List ℕ) → HasSmallMarks w → IfSome (property_of w) (λ p. p < 2 ^ 32)
+    → what_at (what_words w ++ at t) ≡ Some (w, at t)
+what_again w t marks small = ap what_at (regroup (what_head w) (property_words (property_of w)) (what_tail w) (at t))
+    ∙ parts_again w t marks small
 
 -- ---- a whole line
 
@@ -263,9 +334,11 @@ said_takes line s e =
     let tw = what_takes r.0 what.0.0 what.0.1 what.1 in
     let tc = behind_takes (codes " at ") what.0.1 count.0.0 count.0.1 count.1 in
     let end : what.0.1 ≡ codes " at " ++ decimal count.0.0
-    = tc.1 ∙ ap (λ (v : List ℕ). codes " at " ++ decimal count.0.0 ++ v) whole.1 ∙ append-nil (codes " at " ++ decimal count.0.0) in
+    = tc.1 ∙ ap (λ (v : List ℕ). codes " at " ++ decimal count.0.0 ++ v) whole.1
+    ∙ append-nil (codes " at " ++ decimal count.0.0) in
     let parts : line ≡ said_words read
-    = ts.parts ∙ ap (λ (v : List ℕ). decimal seat.0.0 ++ v) (space_takes seat.0.1 r.0 r.1 ∙ ap (λ (v : List ℕ). 32 ∷ v) (tw.parts ∙ ap (λ (v : List ℕ). what_words what.0.0 ++ v) end))
+    = ts.parts ∙ ap (λ (v : List ℕ). decimal seat.0.0 ++ v) (space_takes seat.0.1 r.0 r.1
+    ∙ ap (λ (v : List ℕ). 32 ∷ v) (tw.parts ∙ ap (λ (v : List ℕ). what_words what.0.0 ++ v) end))
     ∙ sym (said_parts (decimal seat.0.0) (what_words what.0.0) (codes " at ") (decimal count.0.0)) in
     subst (λ (k : Said). IsSmallSaid k × (line ≡ said_words k)) whole.0
     (record { seat = ts.small; property = tw.small; marks = tw.marks; upto = tc.0 }, parts)
@@ -274,10 +347,17 @@ said_again : (s : Said) → IsSmallSaid s → said_of (said_words s) ≡ Some s
 unfolding said_of
 said_again s small =
     let count : small_behind (codes " at ") (at (decimal s.upto)) ≡ Some (s.upto, [])
-    = ap (small_behind (codes " at ")) (sym (append-nil (at (decimal s.upto)))) ∙ behind_again (codes " at ") s.upto [] small.upto tt in
+    = ap (small_behind (codes " at ")) (sym (append-nil (at (decimal s.upto))))
+    ∙ behind_again (codes " at ") s.upto [] small.upto tt in
     let tail = 32 ∷ (what_words s.what ++ at (decimal s.upto)) in
     ap said_of (said_parts (decimal s.seat) (what_words s.what) (codes " at ") (decimal s.upto))
-    ∙ rw (small_again s.seat tail small.seat refl, space_again (what_words s.what ++ at (decimal s.upto)), what_again s.what (decimal s.upto) small.marks small.property, count) refl
+    ∙ rw (
+      small_again s.seat tail small.seat refl,
+      space_again (what_words s.what ++ at (decimal s.upto)),
+      what_again s.what
+          (decimal s.upto) small.marks small.property,
+      count,
+    ) refl
 
 IsOneLine-head : (w : What) → IsOneLine (what_head w)
 IsOneLine-head (Draws p) = IsOneLine-tested (codes "draw ") refl
@@ -297,7 +377,8 @@ IsOneLine-property None small = tt
 IsOneLine-property (Some p) small = ((λ e. absurd cc), IsOneLine-small p small)
 
 IsOneLine-had : (had : Mark) → IsSmallMark had → IsOneLine (codes " had " ++ mark_words had)
-IsOneLine-had had small = IsOneLine-append (codes " had ") (mark_words had) (IsOneLine-tested (codes " had ") refl) (IsOneLine-mark had small)
+IsOneLine-had had small = IsOneLine-append (codes " had ") (mark_words had) (IsOneLine-tested (codes " had ") refl)
+    (IsOneLine-mark had small)
 
 IsOneLine-offered : (m : Mark) → IsSmallMark m → IsOneLine (32 ∷ mark_words m)
 IsOneLine-offered m small = ((λ e. absurd cc), IsOneLine-mark m small)
@@ -310,7 +391,8 @@ IsOneLine-tail Publishes marks = tt
 IsOneLine-tail (Settles p m) marks = IsOneLine-offered m marks
 IsOneLine-tail (SettlesHad p m had) marks =
     subst IsOneLine (sym (append_assoc (32 ∷ mark_words m) (codes " had ") (mark_words had)))
-    (IsOneLine-append (32 ∷ mark_words m) (codes " had " ++ mark_words had) (IsOneLine-offered m marks.0) (IsOneLine-had had marks.1))
+    (IsOneLine-append (32 ∷ mark_words m) (codes " had " ++ mark_words had) (IsOneLine-offered m marks.0)
+    (IsOneLine-had had marks.1))
 IsOneLine-tail (Cancels p) marks = IsOneLine-tested (codes " yes") refl
 IsOneLine-tail (CancelsNot p) marks = IsOneLine-tested (codes " no") refl
 IsOneLine-tail (GivesUp p) marks = IsOneLine-tested (codes " yes") refl
@@ -320,11 +402,14 @@ IsOneLine-tail (GivesUpHad p had) marks = IsOneLine-had had marks
 IsOneLine-said : (s : Said) → IsSmallSaid s → IsOneLine (said_words s)
 IsOneLine-said s small =
     let what = IsOneLine-append (what_head s.what ++ property_words (property_of s.what)) (what_tail s.what)
-    (IsOneLine-append (what_head s.what) (property_words (property_of s.what)) (IsOneLine-head s.what) (IsOneLine-property (property_of s.what) small.property))
+    (IsOneLine-append (what_head s.what) (property_words (property_of s.what)) (IsOneLine-head s.what)
+    (IsOneLine-property (property_of s.what) small.property))
     (IsOneLine-tail s.what small.marks) in
-    let front = IsOneLine-append (decimal s.seat) (32 ∷ what_words s.what) (IsOneLine-small s.seat small.seat) ((λ e. absurd cc), what) in
+    let front = IsOneLine-append (decimal s.seat) (32 ∷ what_words s.what) (IsOneLine-small s.seat small.seat)
+    ((λ e. absurd cc), what) in
     IsOneLine-append (decimal s.seat ++ 32 ∷ what_words s.what ++ codes " at ") (decimal s.upto)
-    (IsOneLine-append (decimal s.seat ++ 32 ∷ what_words s.what) (codes " at ") front (IsOneLine-tested (codes " at ") refl)) (IsOneLine-small s.upto small.upto)
+    (IsOneLine-append (decimal s.seat ++ 32 ∷ what_words s.what) (codes " at ") front (IsOneLine-tested (codes " at ") refl))
+    (IsOneLine-small s.upto small.upto)
 
 pub said_read : IsRead IsSmallSaid said_words said_of
 said_read = record { one_line = IsOneLine-said; takes = said_takes; again = said_again }

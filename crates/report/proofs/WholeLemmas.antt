@@ -29,7 +29,8 @@ pub first_word : IsOneLine (codes "jasign 1")
 first_word = IsOneLine-tested (codes "jasign 1") refl
 
 pub first_sound : IsSound (words_form (codes "jasign 1"))
-first_sound = line_sound {X = ⊤} (λ _. ⊤) (λ _. codes "jasign 1") (words_words (codes "jasign 1") first_word) (some_words (codes "jasign 1"))
+first_sound = line_sound {X = ⊤} (λ _. ⊤) (λ _. codes "jasign 1") (words_words (codes "jasign 1") first_word)
+    (some_words (codes "jasign 1"))
 
 pub sizes_sound : IsSound sizes_form
 sizes_sound = line_sound AreSmallSizes (λ s. codes "design" ++ sizes_words s) (read_words sizes_read) some_sizes
@@ -46,10 +47,12 @@ head_sound = then_sound (words_form (codes "jasign 1")) (λ _. then sizes_form p
 -- ---- what was found
 
 pub clauses_form_sound : (vars : ℕ) → IsSound (clauses_form vars)
-clauses_form_sound vars = then_sound (count_form (codes "clauses ")) (clause_lines_form vars) clause_count_sound (λ n fits. clauses_sound vars n)
+clauses_form_sound vars = then_sound (count_form (codes "clauses ")) (clause_lines_form vars) clause_count_sound
+    (λ n fits. clauses_sound vars n)
 
 pub found_sound : (s : Sizes) (marks : List Mark) → length marks < 2 ^ 32 → IsSound (found_form s marks)
-found_sound s marks small = then_sound (clauses_form s.vars) (λ _. stimuli_form s 0 marks) (clauses_form_sound s.vars) (λ _ _. stimuli_sound s marks small)
+found_sound s marks small = then_sound (clauses_form s.vars) (λ _. stimuli_form s 0 marks) (clauses_form_sound s.vars)
+    (λ _ _. stimuli_sound s marks small)
 
 -- ---- lines and clauses as the text of a report has them
 
@@ -57,18 +60,21 @@ props_text : (q : ℕ) (ls : List PropLine) → texts_from prop_form (λ k _. k 
 props_text q [] = refl
 props_text q (l ∷ ls) = ap (λ (t : List ℕ). line_of (prop_words q l) ++ t) (props_text (q + 1) ls)
 
-props_small : (q : ℕ) (ls : List PropLine) → FitFrom prop_form (λ k _. k + 1) q ls → AllByRecursion (λ (l : PropLine). IsSmallMark l.mark) ls
+props_small : (q : ℕ) (ls : List PropLine) → FitFrom prop_form (λ k _. k + 1) q ls
+    → AllByRecursion (λ (l : PropLine). IsSmallMark l.mark) ls
 props_small q [] fits = tt
 props_small q (l ∷ ls) fits = (fits.0, props_small (q + 1) ls fits.1)
 
-props_fit : (q : ℕ) (ls : List PropLine) → AllByRecursion (λ (l : PropLine). IsSmallMark l.mark) ls → FitFrom prop_form (λ k _. k + 1) q ls
+props_fit : (q : ℕ) (ls : List PropLine) → AllByRecursion (λ (l : PropLine). IsSmallMark l.mark) ls
+    → FitFrom prop_form (λ k _. k + 1) q ls
 props_fit q [] small = tt
 props_fit q (l ∷ ls) small = (small.0, props_fit (q + 1) ls small.1)
 
 abbrev clause_text : List ℕ → List ℕ
 clause_text c = line_of (clause_words c)
 
-clauses_text : (vars : ℕ) (cs : List (List ℕ)) → texts_from {S = ⊤} (λ _. clause_form vars) (λ s _. s) tt cs ≡ flat_map clause_text cs
+clauses_text : (vars : ℕ) (cs : List (List ℕ)) → texts_from {S = ⊤} (λ _. clause_form vars) (λ s _. s) tt cs ≡ flat_map
+    clause_text cs
 clauses_text vars [] = refl
 clauses_text vars (c ∷ cs) = ap (λ (t : List ℕ). clause_text c ++ t) (clauses_text vars cs) ∙ sym (flat_map-cons clause_text c cs)
 
@@ -77,14 +83,16 @@ clauses_are : (vars : ℕ) (cs : List (List ℕ)) → FitFrom {S = ⊤} (λ _. c
 clauses_are vars [] fits = (tt, tt)
 clauses_are vars (c ∷ cs) fits = let rest = clauses_are vars cs fits.1 in ((fits.0.form, rest.0), (fits.0.small, rest.1))
 
-clauses_fit : (vars : ℕ) (cs : List (List ℕ)) → AllByRecursion (IsReportClause vars) cs → AllByRecursion (AllByRecursion (λ l. l < 2 ^ 32)) cs
+clauses_fit : (vars : ℕ) (cs : List (List ℕ)) → AllByRecursion (IsReportClause vars) cs
+    → AllByRecursion (AllByRecursion (λ l. l < 2 ^ 32)) cs
     → FitFrom {S = ⊤} (λ _. clause_form vars) (λ s _. s) tt cs
 clauses_fit vars [] form small = tt
 clauses_fit vars (c ∷ cs) form small = (record { form = form.0; small = small.0 }, clauses_fit vars cs form.1 small.1)
 
 -- ---- the journal, where it is shown
 
-if_shown : (b : Bool) (props : ℕ) (clauses : List (List ℕ)) (es : List Entry) (P : Type 0) → IsEnding props clauses b es → (IsEnding props clauses true es → P) → IfShown b P
+if_shown : (b : Bool) (props : ℕ) (clauses : List (List ℕ)) (es : List Entry) (P : Type 0) → IsEnding props clauses b es
+    → (IsEnding props clauses true es → P) → IfShown b P
 if_shown true props clauses es P e f = f e
 if_shown false props clauses es P e f = tt
 
@@ -93,7 +101,8 @@ hidden_of true props clauses es e f = absurd cc
 hidden_of false props clauses es e f = e
 
 ending_of : (b : Bool) (r : Findings) → r.sizes.props < 2 ^ 32 → length r.clauses < 2 ^ 32 → IfShown b (IsShownJournal r)
-    → IfShown b ((length r.journal < 2 ^ 32) × AllByRecursion IsSmallEntry r.journal) → (b ≡ false → r.journal ≡ []) → IsEnding r.sizes.props r.clauses b r.journal
+    → IfShown b ((length r.journal < 2 ^ 32) × AllByRecursion IsSmallEntry r.journal) → (b ≡ false → r.journal ≡ [])
+    → IsEnding r.sizes.props r.clauses b r.journal
 ending_of true r sp sc shown small hidden = (
   record { small = small.0; some = entries_some r.clauses r.journal shown.appended },
   entries_are r.sizes.props r.clauses r.journal sp sc shown.answered small.1 shown.appended,
@@ -105,10 +114,12 @@ ending_of false r sp sc shown small hidden = hidden refl
 abbrev pub Parts : Type 0
 Parts = (⊤ × (Sizes × List PropLine)) × (((ℕ × List (List ℕ)) × List PropStim) × (Bool × (List ℕ × (Bool × List Entry))))
 
-abbrev pub behind_found : ⊤ × (Sizes × List PropLine) → (ℕ × List (List ℕ)) × List PropStim → Form (Bool × (List ℕ × (Bool × List Entry)))
+abbrev pub behind_found : ⊤ × (Sizes × List PropLine) → (ℕ × List (List ℕ)) × List PropStim
+    → Form (Bool × (List ℕ × (Bool × List Entry)))
 behind_found h f = end_form h.1.0.props f.0.1
 
-abbrev pub behind_head : ⊤ × (Sizes × List PropLine) → Form (((ℕ × List (List ℕ)) × List PropStim) × (Bool × (List ℕ × (Bool × List Entry))))
+abbrev pub behind_head : ⊤ × (Sizes × List PropLine)
+    → Form (((ℕ × List (List ℕ)) × List PropStim) × (Bool × (List ℕ × (Bool × List Entry))))
 behind_head h = then (found_form h.1.0 (marks_of h.1.1)) (behind_found h)
 
 abbrev pub parts_form : Form Parts
@@ -129,15 +140,26 @@ report_of x = record {
 abbrev pub parts_of : Findings → Parts
 parts_of r = ((tt, (r.sizes, r.lines)), (((length r.clauses, r.clauses), r.stimuli), (r.joined, (r.set, (r.shown, r.journal)))))
 
-ten : (a b c d e f g h i j : List ℕ) → (a ++ (b ++ c)) ++ (((d ++ e) ++ f) ++ (g ++ (h ++ (i ++ j)))) ≡ a ++ b ++ c ++ d ++ e ++ f ++ g ++ h ++ i ++ j
+ten : (a b c d e f g h i j : List ℕ)
+    → (a ++ (b ++ c)) ++ (((d ++ e) ++ f) ++ (g ++ (h ++ (i ++ j)))) ≡ a ++ b ++ c ++ d ++ e ++ f ++ g ++ h ++ i ++ j
 ten a b c d e f g h i j = simp append_assoc
 
 pub parts_text : (r : Findings) → parts_form.text (parts_of r) ≡ report_text r
 parts_text r =
-    ap (λ (t : List ℕ). (line_of (codes "jasign 1") ++ (line_of (codes "design" ++ sizes_words r.sizes) ++ t)) ++ (((line_of (codes "clauses " ++ decimal (length r.clauses)) ++ texts_from {S = ⊤} (λ _. clause_form r.sizes.vars) (λ s _. s) tt r.clauses) ++ flat_map stimulus_lines r.stimuli) ++ (line_of (joined_words r.joined) ++ (line_of (set_words r.set) ++ (journal_text r.shown r.journal ++ line_of (codes "end")))))) (props_text 0 r.lines)
-    ∙ ap (λ (t : List ℕ). (line_of (codes "jasign 1") ++ (line_of (codes "design" ++ sizes_words r.sizes) ++ prop_lines 0 r.lines)) ++ (((line_of (codes "clauses " ++ decimal (length r.clauses)) ++ t) ++ flat_map stimulus_lines r.stimuli) ++ (line_of (joined_words r.joined) ++ (line_of (set_words r.set) ++ (journal_text r.shown r.journal ++ line_of (codes "end")))))) (clauses_text r.sizes.vars r.clauses)
-    ∙ ten (line_of (codes "jasign 1")) (line_of (codes "design" ++ sizes_words r.sizes)) (prop_lines 0 r.lines) (line_of (codes "clauses " ++ decimal (length r.clauses)))
-    (flat_map clause_text r.clauses) (flat_map stimulus_lines r.stimuli) (line_of (joined_words r.joined)) (line_of (set_words r.set)) (journal_text r.shown r.journal) (line_of (codes "end"))
+    ap (λ (t : List ℕ). (line_of (codes "jasign 1") ++ (line_of (codes "design" ++ sizes_words r.sizes) ++ t))
+    ++ (((line_of (codes "clauses " ++ decimal (length r.clauses)) ++ texts_from {S = ⊤} (λ _. clause_form r.sizes.vars)
+    (λ s _. s) tt r.clauses) ++ flat_map stimulus_lines r.stimuli)
+    ++ (line_of (joined_words r.joined)
+    ++ (line_of (set_words r.set) ++ (journal_text r.shown r.journal ++ line_of (codes "end")))))) (props_text 0 r.lines)
+    ∙ ap (λ (t : List ℕ). (line_of (codes "jasign 1") ++ (line_of (codes "design" ++ sizes_words r.sizes) ++ prop_lines 0
+    r.lines)) ++ (((line_of (codes "clauses " ++ decimal (length r.clauses)) ++ t) ++ flat_map stimulus_lines r.stimuli)
+    ++ (line_of (joined_words r.joined)
+    ++ (line_of (set_words r.set) ++ (journal_text r.shown r.journal ++ line_of (codes "end"))))))
+    (clauses_text r.sizes.vars r.clauses)
+    ∙ ten (line_of (codes "jasign 1")) (line_of (codes "design" ++ sizes_words r.sizes)) (prop_lines 0 r.lines)
+    (line_of (codes "clauses " ++ decimal (length r.clauses)))
+    (flat_map clause_text r.clauses) (flat_map stimulus_lines r.stimuli) (line_of (joined_words r.joined))
+    (line_of (set_words r.set)) (journal_text r.shown r.journal) (line_of (codes "end"))
 
 -- the parts are those of their report
 parts_same : (x : Parts) → parts_form.Fits x → parts_of (report_of x) ≡ x
@@ -180,8 +202,18 @@ parts_fit r h =
     let m = h.small in (
       (tt, (m.sizes, record { as_many = f.lines; each = props_fit 0 r.lines m.marks })),
       (
-        ((m.count, record { as_many = refl; each = clauses_fit r.sizes.vars r.clauses f.clauses m.literals }), record { props = f.stimuli; widths = f.widths }),
-        (tt, (record { ascends = f.set_ascends; within = f.set_within }, ending_of r.shown r m.sizes.props m.count f.journal m.journal h.hidden)),
+        (
+          (m.count, record { as_many = refl; each = clauses_fit r.sizes.vars r.clauses f.clauses m.literals }),
+          record { props = f.stimuli; widths = f.widths },
+        ),
+        (
+          tt,
+          (
+            record { ascends = f.set_ascends; within = f.set_within },
+            ending_of r.shown r m.sizes.props m.count f.journal
+                m.journal h.hidden,
+          ),
+        ),
       ),
     )
 
@@ -191,16 +223,20 @@ report_there x fits = (report_of x, parts_read x fits, sym (parts_text (report_o
 report_back : IsPart report_form parts_form
 report_back r h = (parts_of r, parts_fit r h, parts_text r)
 
-pub head_small : (h : ⊤ × (Sizes × List PropLine)) → head_form.Fits h → (h.1.0.props < 2 ^ 32) × (length (marks_of h.1.1) < 2 ^ 32)
+pub head_small : (h : ⊤ × (Sizes × List PropLine)) → head_form.Fits h
+    → (h.1.0.props < 2 ^ 32) × (length (marks_of h.1.1) < 2 ^ 32)
 head_small h fits =
     (fits.1.0.props, omega (arith, fits.1.0.props, fits.1.1.as_many, length-map h.1.1 (λ (l : PropLine). l.mark)))
 
-behind_found_sound : (h : ⊤ × (Sizes × List PropLine)) → head_form.Fits h → (f : (ℕ × List (List ℕ)) × List PropStim) → (found_form h.1.0 (marks_of h.1.1)).Fits f
+behind_found_sound : (h : ⊤ × (Sizes × List PropLine)) → head_form.Fits h → (f : (ℕ × List (List ℕ)) × List PropStim)
+    → (found_form h.1.0 (marks_of h.1.1)).Fits f
     → IsSound (behind_found h f)
-behind_found_sound h fits f found = end_sound h.1.0.props f.0.1 (head_small h fits).0 (omega (arith, found.0.0, found.0.1.as_many))
+behind_found_sound h fits f found = end_sound h.1.0.props f.0.1 (head_small h fits).0
+    (omega (arith, found.0.0, found.0.1.as_many))
 
 behind_head_sound : (h : ⊤ × (Sizes × List PropLine)) → head_form.Fits h → IsSound (behind_head h)
-behind_head_sound h fits = then_sound (found_form h.1.0 (marks_of h.1.1)) (behind_found h) (found_sound h.1.0 (marks_of h.1.1) (head_small h fits).1) (behind_found_sound h fits)
+behind_head_sound h fits = then_sound (found_form h.1.0 (marks_of h.1.1)) (behind_found h)
+    (found_sound h.1.0 (marks_of h.1.1) (head_small h fits).1) (behind_found_sound h fits)
 
 parts_sound : IsSound parts_form
 parts_sound = then_sound head_form behind_head head_sound behind_head_sound
@@ -213,24 +249,31 @@ report_sound = same_sound parts_form report_form report_of report_there report_b
 
 pub report_stops_head : (bytes : List ℕ) (left : ℕ) → Stops head_form bytes left → Stops report_form bytes left
 report_stops_head bytes left stop =
-    same_stops parts_form report_form report_there report_back bytes left (stops_first head_form behind_head (λ h fits. (behind_head_sound h fits).some) bytes left stop)
+    same_stops parts_form report_form report_there report_back bytes left
+    (stops_first head_form behind_head (λ h fits. (behind_head_sound h fits).some) bytes left stop)
 
-pub report_stops_found : (bytes : List ℕ) (h : ⊤ × (Sizes × List PropLine)) (mid : List ℕ) (left : ℕ) → Takes head_form bytes h mid
+pub report_stops_found : (bytes : List ℕ) (h : ⊤ × (Sizes × List PropLine)) (mid : List ℕ) (left : ℕ)
+    → Takes head_form bytes h mid
     → Stops (found_form h.1.0 (marks_of h.1.1)) mid left → Stops report_form bytes left
 report_stops_found bytes h mid left t stop =
     same_stops parts_form report_form report_there report_back bytes left
     (stops_behind head_form behind_head head_sound bytes h mid left t
-    (stops_first (found_form h.1.0 (marks_of h.1.1)) (behind_found h) (λ f found. (behind_found_sound h t.fits f found).some) mid left stop))
+    (stops_first (found_form h.1.0 (marks_of h.1.1)) (behind_found h) (λ f found. (behind_found_sound h t.fits f found).some) mid
+    left stop))
 
-pub report_stops_end : (bytes : List ℕ) (h : ⊤ × (Sizes × List PropLine)) (mid : List ℕ) (f : (ℕ × List (List ℕ)) × List PropStim) (rest : List ℕ) (left : ℕ) → Takes head_form bytes h mid
+pub report_stops_end : (bytes : List ℕ) (h : ⊤ × (Sizes × List PropLine)) (mid : List ℕ) (f : (ℕ × List (List ℕ)) × List PropStim)
+    (rest : List ℕ) (left : ℕ) → Takes head_form bytes h mid
     → Takes (found_form h.1.0 (marks_of h.1.1)) mid f rest → Stops (behind_found h f) rest left → Stops report_form bytes left
 report_stops_end bytes h mid f rest left t u stop =
     same_stops parts_form report_form report_there report_back bytes left
     (stops_behind head_form behind_head head_sound bytes h mid left t
-    (stops_behind (found_form h.1.0 (marks_of h.1.1)) (behind_found h) (found_sound h.1.0 (marks_of h.1.1) (head_small h t.fits).1) mid f rest left u stop))
+    (stops_behind (found_form h.1.0 (marks_of h.1.1)) (behind_found h)
+    (found_sound h.1.0 (marks_of h.1.1) (head_small h t.fits).1) mid f rest left u stop))
 
-pub report_taken : (bytes : List ℕ) (h : ⊤ × (Sizes × List PropLine)) (mid : List ℕ) (f : (ℕ × List (List ℕ)) × List PropStim) (rest : List ℕ)
-    (e : Bool × (List ℕ × (Bool × List Entry))) (after : List ℕ) → Takes head_form bytes h mid → Takes (found_form h.1.0 (marks_of h.1.1)) mid f rest
+pub report_taken : (bytes : List ℕ) (h : ⊤ × (Sizes × List PropLine)) (mid : List ℕ) (f : (ℕ × List (List ℕ)) × List PropStim)
+    (rest : List ℕ)
+    (e : Bool × (List ℕ × (Bool × List Entry))) (after : List ℕ) → Takes head_form bytes h mid
+    → Takes (found_form h.1.0 (marks_of h.1.1)) mid f rest
     → Takes (behind_found h f) rest e after → Takes report_form bytes (report_of (h, (f, e))) after
 unfolding report_there
 report_taken bytes h mid f rest e after t u v =

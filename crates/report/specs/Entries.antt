@@ -164,7 +164,8 @@ entry_words e upto = decimal e.seat ++ 32 ∷ said_words (what_of e.event e.repl
 
 -- ---- entries that a journal may have
 
--- The event and the reply say something, of a property below so many. The reply counts the clauses right, n of which stood before.
+-- The event and the reply say something, of a property below so many. The reply counts the clauses right, n of which stood
+-- before.
 pub record IsAnswered (props n : ℕ) (e : Entry) : Type 0 where
   pub what : What
   pub says : what_of e.event e.reply ≡ Some what

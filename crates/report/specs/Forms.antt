@@ -1,4 +1,5 @@
--- Forms of text in whole lines: which values have a text and which one, and where bytes leave a form. A reader takes the text at the
+-- Forms of text in whole lines: which values have a text and which one, and where bytes leave a form. A reader takes the text at
+-- the
 -- front and answers what follows it, or how many bytes are left from the first line on that no text of the form has there.
 use Rattle.std.specs.Prelude.{◌≡◌, ℕ, ⊤, ◌⊎◌, List, [], ◌∷◌, ◌++◌, length, Result, Ok, Err}
 use Rattle.ja_base.specs.declared.memory.OrMemory.{OrMemory}
@@ -28,7 +29,8 @@ pub record Begins {X : Type 0} (F : Form X) (front : List ℕ) : Type 0 where
   pub fits : F.Fits value
   pub text : F.text value ≡ front ++ rest
 
--- The lines before the one that begins where so many bytes are left begin the text of a value. With this line they begin none, and
+-- The lines before the one that begins where so many bytes are left begin the text of a value. With this line they begin none,
+-- and
 -- no text stands in front of what begins with them, if it has an LF; and no text stands in front of the bytes.
 pub record Stops {X : Type 0} (F : Form X) (bytes : List ℕ) (left : ℕ) : Type 0 where
   pub front : List ℕ
@@ -37,7 +39,8 @@ pub record Stops {X : Type 0} (F : Form X) (bytes : List ℕ) (left : ℕ) : Typ
   pub left_is : left ≡ length rest
   pub lines : AreLines front
   pub begins : Begins F front
-  pub no_more : (line after behind : List ℕ) → IsOneLine line → rest ≡ line ++ 10 ∷ after → TakesNone F (front ++ line ++ 10 ∷ behind)
+  pub no_more : (line after behind : List ℕ) → IsOneLine line → rest ≡ line ++ 10 ∷ after
+      → TakesNone F (front ++ line ++ 10 ∷ behind)
   pub none : TakesNone F bytes
 
 -- reading stops at the first line that leaves the form, unless memory was wanting

@@ -31,7 +31,14 @@ sizes_of line = do
   gates ← spaced_at latches.1
   props ← spaced_at gates.1
   constraints ← count_of (codes " ") props.1
-  Some (record { vars = vars.0; inputs = inputs.0; latches = latches.0; gates = gates.0; props = props.0; constraints = constraints })
+  Some (record {
+    vars = vars.0;
+    inputs = inputs.0;
+    latches = latches.0;
+    gates = gates.0;
+    props = props.0;
+    constraints = constraints;
+  })
 
 -- what is behind the word that stands there
 abbrev pub first_expectation : Option (List ℕ) → Option (List ℕ) → Option (Bool × List ℕ)

@@ -164,7 +164,8 @@ pub record BeginsReport (front : List ℕ) : Type 0 where
   pub rest : List ℕ
   pub text : IsReportText (front ++ rest) report
 
--- The lines before this one begin the text of a report. With this line they do not, if it has an LF; and the bytes are the text of
+-- The lines before this one begin the text of a report. With this line they do not, if it has an LF; and the bytes are the text
+-- of
 -- no report.
 pub record IsBadLine (bytes : List ℕ) (line : ℕ) : Type 0 where
   pub front : List ℕ

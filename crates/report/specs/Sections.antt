@@ -66,7 +66,10 @@ next_row_form width = line_form (λ next. IfSome next (λ row. length row ≡ wi
 
 -- rows up to a dot
 abbrev pub rows_form : ℕ → Form (List (List Bool))
-rows_form width = record { Fits = AllByRecursion (λ row. length row ≡ width); text = λ rows. flat_map row_line rows ++ codes ".\n" }
+rows_form width = record {
+  Fits = AllByRecursion (λ row. length row ≡ width);
+  text = λ rows. flat_map row_line rows ++ codes ".\n";
+}
 
 -- one or more rows, of this width
 pub record AreInputs (width : ℕ) (rows : List (List Bool)) : Type 0 where

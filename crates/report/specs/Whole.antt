@@ -21,12 +21,17 @@ use Rattle.report.specs.JournalLines.{AreEntries}
 
 -- a journal of entries that fit these clauses, where it is shown, and else none
 abbrev pub IsEnding : ℕ → List (List ℕ) → Bool → List Entry → Type 0
-IsEnding props clauses true entries = IsEntryCount (length clauses) (length entries) × AreEntries props clauses (length entries) entries
+IsEnding props clauses true entries = IsEntryCount (length clauses) (length entries) × AreEntries props clauses (length entries)
+    entries
 IsEnding props clauses false entries = entries ≡ []
 
 -- the journal, where it is shown, and the end
 abbrev pub tail_form : ℕ → List (List ℕ) → Form (Bool × List Entry)
-tail_form props clauses = record { Fits = λ p. IsEnding props clauses p.0 p.1; text = λ p. journal_text p.0 p.1 ++ line_of (codes "end") }
+tail_form props clauses = record {
+  Fits = λ p. IsEnding props clauses p.0 p.1;
+  text = λ p. journal_text p.0 p.1 ++ line_of
+      (codes "end");
+}
 
 -- the first line, the sizes and the lines of the properties
 abbrev pub head_form : Form (⊤ × (Sizes × List PropLine))
@@ -76,7 +81,8 @@ ReadsWhole bytes (Err e) = FailsWhole bytes e
 
 -- a number other than 1, in digits without a zero in front
 abbrev pub is_other : List ℕ → Bool
-is_other digits = not (length digits == 0) && list_all is_digit digits && not (has_leading_zero digits) && not (bytes_eq digits (codes "1"))
+is_other digits = not (length digits == 0) && list_all is_digit digits && not (has_leading_zero digits) && not
+    (bytes_eq digits (codes "1"))
 
 -- the digits of another version, where the first line names one
 unfoldable pub other_at : List ℕ → Option (List ℕ)

@@ -28,7 +28,8 @@ fn take_tail<'a>(
     clauses: &ClauseList,
     bytes: &'a [u8],
 ) -> Read<(bool, Journal, &'a [u8])>
-    ensures { Reads (tail_form props clauses.now) (λ x. (x.0, x.1)) (λ x. x.2.now) bytes.now result }
+    ensures { Reads (tail_form props clauses.now) (λ x. (x.0, x.1)) (λ x. x.2.now)
+        bytes.now result }
 {
     let (next, rest) = take_next(bytes, clauses.len())?;
     let Some(count) = next else {

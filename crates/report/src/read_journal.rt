@@ -59,7 +59,8 @@ fn due_of(props: u32, total: u32, from: u32, left: u32, line: &[u8]) -> Option<S
 
 fn take_said(props: u32, total: u32, from: u32, left: u32, bytes: &[u8]) -> Read<(Said, &[u8])>
     requires { from ≤ total }
-    ensures { Reads (said_form props total (from, left)) (λ x. x.0) (λ x. x.1.now) bytes.now result }
+    ensures { Reads (said_form props total (from, left)) (λ x. x.0) (λ x. x.1.now)
+        bytes.now result }
 {
     let Some((line, rest)) = line(bytes) else {
         return Err(bad(bytes));
@@ -140,7 +141,8 @@ pub fn take_entries<'a>(
     bytes: &'a [u8],
 ) -> Read<(Journal, &'a [u8])>
     requires { count ≡ 0 → length clauses.now ≡ 0 }
-    ensures { Reads (entries_form props clauses.now count) (λ x. x.0) (λ x. x.1.now) bytes.now result }
+    ensures { Reads (entries_form props clauses.now count) (λ x. x.0) (λ x. x.1.now)
+        bytes.now result }
 {
     let total = clauses.len();
     let mut journal = Journal::new(alloc);

@@ -58,7 +58,8 @@ fn take_where<'a>(
     stimuli: &mut Stimuli,
     bytes: &'a [u8],
 ) -> Read<&'a [u8]>
-    ensures { Adds (where_form fails sizes prop) stimuli.old stimuli.new (λ x. x.now) bytes.now result }
+    ensures { Adds (where_form fails sizes prop) stimuli.old stimuli.new (λ x. x.now)
+        bytes.now result }
 {
     if !fails {
         return Ok(bytes);
@@ -81,7 +82,8 @@ pub fn take_stimuli<'a>(
     lines: &PropLines,
     bytes: &'a [u8],
 ) -> Read<(Stimuli, &'a [u8])>
-    ensures { Reads (stimuli_form sizes 0 (marks_of lines.now)) (λ x. x.0) (λ x. x.1.now) bytes.now result }
+    ensures { Reads (stimuli_form sizes 0 (marks_of lines.now)) (λ x. x.0) (λ x. x.1.now)
+        bytes.now result }
 {
     let mut stimuli = Stimuli::new(alloc);
     let mut rest = bytes;

@@ -27,7 +27,25 @@ impl Model for Report {
 
     ghost Value = { Findings };
 
-    ghost view = { λ r. record { sizes = r.sizes; lines = r.lines; clauses = r.clauses; stimuli = r.stimuli; joined = r.joined; set = r.set; journal = r.journal; shown = r.shown } };
+    ghost view = { λ r. record {
+      sizes = r.sizes;
+      lines = r.lines;
+      clauses = r.clauses;
+      stimuli = r.stimuli;
+      joined = r.joined;
+      set = r.set;
+      journal = r.journal;
+      shown = r.shown;
+    } };
 
-    ghost invariant = { λ r. IsReport (record { sizes = r.sizes; lines = r.lines; clauses = r.clauses; stimuli = r.stimuli; joined = r.joined; set = r.set; journal = r.journal; shown = r.shown }) };
+    ghost invariant = { λ r. IsReport (record {
+      sizes = r.sizes;
+      lines = r.lines;
+      clauses = r.clauses;
+      stimuli = r.stimuli;
+      joined = r.joined;
+      set = r.set;
+      journal = r.journal;
+      shown = r.shown;
+    }) };
 }

@@ -23,7 +23,8 @@ fn put_number(text: &mut Text, number: u32) -> Result<(), Memory>
 }
 
 fn put_sizes(text: &mut Text, sizes: Sizes) -> Result<(), Memory>
-    ensures text { OnOk result (text.new ≡ text.old ++ line_of (codes "design" ++ sizes_words sizes)) }
+    ensures text { OnOk result
+        (text.new ≡ text.old ++ line_of (codes "design" ++ sizes_words sizes)) }
     ensures small { AreSmallSizes sizes }
 {
     text.push(b"design")?;

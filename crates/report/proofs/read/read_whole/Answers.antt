@@ -11,4 +11,5 @@ returns-in_err-report c =
 pub returns-then-not-is_empty : goal.returns-then-not-is_empty
 returns-then-not-is_empty c =
     rw c.bad.ensures
-    (followed c.args.bytes.now _ c.in_ok-report.rest.now c.in_ok-report.ensures (not_empty c.in_ok-report.rest.now c.is_empty.result c.is_empty.ensures c.if-not-is_empty.true))
+    (followed c.args.bytes.now _ c.in_ok-report.rest.now c.in_ok-report.ensures
+    (not_empty c.in_ok-report.rest.now c.is_empty.result c.is_empty.ensures c.if-not-is_empty.true))

@@ -12,8 +12,10 @@ returns-in_err-joined c =
     let clauses = c.args.clauses.now in
     let behind = then (set_form c.args.props) (λ _. tail_form c.args.props clauses) in
     rw (p.1, p.2)
-    (fails joined_form (end_form c.args.props clauses) c.args.bytes.now c.args.bytes.now c.in_err-joined.field-0.0 c.in_err-joined.ensures
-    (λ left stop. stops_first joined_form (λ _. behind) (λ _ _. (set_tail_sound c.args.props clauses c.ranges.props.fits c.requires).some) c.args.bytes.now left stop))
+    (fails joined_form (end_form c.args.props clauses) c.args.bytes.now c.args.bytes.now c.in_err-joined.field-0.0
+    c.in_err-joined.ensures
+    (λ left stop. stops_first joined_form (λ _. behind)
+    (λ _ _. (set_tail_sound c.args.props clauses c.ranges.props.fits c.requires).some) c.args.bytes.now left stop))
 
 pub returns-in_err-set : goal.returns-in_err-set
 returns-in_err-set c =
@@ -22,9 +24,12 @@ returns-in_err-set c =
     let tail = tail_form c.args.props clauses in
     let behind = then (set_form c.args.props) (λ _. tail) in
     rw (p.1, p.2)
-    (fails (set_form c.args.props) (end_form c.args.props clauses) c.args.bytes.now c.in_ok-joined.rest.now c.in_err-set.field-0.0 c.in_err-set.ensures
-    (λ left stop. stops_behind joined_form (λ _. behind) joined_sound c.args.bytes.now c.in_ok-joined.joined c.in_ok-joined.rest.now left c.in_ok-joined.ensures
-    (stops_first (set_form c.args.props) (λ _. tail) (λ _ _. (tail_sound c.args.props clauses c.requires).some) c.in_ok-joined.rest.now left stop)))
+    (fails (set_form c.args.props) (end_form c.args.props clauses) c.args.bytes.now c.in_ok-joined.rest.now c.in_err-set.field-0.0
+    c.in_err-set.ensures
+    (λ left stop. stops_behind joined_form (λ _. behind) joined_sound c.args.bytes.now c.in_ok-joined.joined
+    c.in_ok-joined.rest.now left c.in_ok-joined.ensures
+    (stops_first (set_form c.args.props) (λ _. tail) (λ _ _. (tail_sound c.args.props clauses c.requires).some)
+    c.in_ok-joined.rest.now left stop)))
 
 pub returns-in_err-shown : goal.returns-in_err-shown
 returns-in_err-shown c =
@@ -33,6 +38,9 @@ returns-in_err-shown c =
     let tail = tail_form c.args.props clauses in
     let behind = then (set_form c.args.props) (λ _. tail) in
     rw (p.1, p.2)
-    (fails tail (end_form c.args.props clauses) c.args.bytes.now c.in_ok-set.rest.now c.in_err-shown.field-0.0 c.in_err-shown.ensures
-    (λ left stop. stops_behind joined_form (λ _. behind) joined_sound c.args.bytes.now c.in_ok-joined.joined c.in_ok-joined.rest.now left c.in_ok-joined.ensures
-    (stops_behind (set_form c.args.props) (λ _. tail) (set_sound c.args.props c.ranges.props.fits) c.in_ok-joined.rest.now c.in_ok-set.set c.in_ok-set.rest.now left c.in_ok-set.ensures stop)))
+    (fails tail (end_form c.args.props clauses) c.args.bytes.now c.in_ok-set.rest.now c.in_err-shown.field-0.0
+    c.in_err-shown.ensures
+    (λ left stop. stops_behind joined_form (λ _. behind) joined_sound c.args.bytes.now c.in_ok-joined.joined
+    c.in_ok-joined.rest.now left c.in_ok-joined.ensures
+    (stops_behind (set_form c.args.props) (λ _. tail) (set_sound c.args.props c.ranges.props.fits) c.in_ok-joined.rest.now
+    c.in_ok-set.set c.in_ok-set.rest.now left c.in_ok-set.ensures stop)))

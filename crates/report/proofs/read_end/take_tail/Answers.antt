@@ -27,7 +27,8 @@ returns-in_err-journal c =
     let mid = c.in_ok-next.rest.now in
     let counted = rw (c.len.ensures, c.in-Some.is) at c.in_ok-next.ensures in
     rw (p.1, p.2)
-    (fails (entries_form c.args.props clauses c.in-Some.count) (tail_form c.args.props clauses) c.args.bytes.now mid c.in_err-journal.field-0.0 c.in_err-journal.ensures
+    (fails (entries_form c.args.props clauses c.in-Some.count) (tail_form c.args.props clauses) c.args.bytes.now mid
+    c.in_err-journal.field-0.0 c.in_err-journal.ensures
     (λ left stop. tail_stops_entries c.args.props clauses c.in-Some.count c.args.bytes.now mid left counted stop))
 
 pub returns-in_err-rest : goal.returns-in_err-rest
@@ -38,12 +39,15 @@ returns-in_err-rest c =
     let counted = rw (c.len.ensures, c.in-Some.is) at c.in_ok-next.ensures in
     let small : length clauses < 2 ^ 32 = omega (arith, c.len.type_inv, c.len.ensures) in
     rw (p.1, p.2)
-    (fails (words_form (codes "end")) (tail_form c.args.props clauses) c.args.bytes.now c.in_ok-journal.rest.now c.in_err-rest.field-0.0 c.in_err-rest.ensures
-    (λ left stop. tail_stops_end c.args.props clauses c.in-Some.count c.in_ok-journal.journal c.args.bytes.now mid c.in_ok-journal.rest.now left small counted c.in_ok-journal.ensures stop))
+    (fails (words_form (codes "end")) (tail_form c.args.props clauses) c.args.bytes.now c.in_ok-journal.rest.now
+    c.in_err-rest.field-0.0 c.in_err-rest.ensures
+    (λ left stop. tail_stops_end c.args.props clauses c.in-Some.count c.in_ok-journal.journal c.args.bytes.now mid
+    c.in_ok-journal.rest.now left small counted c.in_ok-journal.ensures stop))
 
 pub returns : goal.returns
 returns c =
     let clauses = c.args.clauses.now in
     let counted = rw (c.len.ensures, c.in-Some.is) at c.in_ok-next.ensures in
-    tail_taken c.args.props clauses c.in-Some.count c.in_ok-journal.journal c.args.bytes.now c.in_ok-next.rest.now c.in_ok-journal.rest.now c.in_ok-rest.rest.now counted
+    tail_taken c.args.props clauses c.in-Some.count c.in_ok-journal.journal c.args.bytes.now c.in_ok-next.rest.now
+    c.in_ok-journal.rest.now c.in_ok-rest.rest.now counted
     c.in_ok-journal.ensures c.in_ok-rest.ensures

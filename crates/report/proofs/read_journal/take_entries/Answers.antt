@@ -16,10 +16,13 @@ returns-in_err-said c =
     let left = c.args.count - i in
     let e = c.in_err-said.field-0.0 in
     let small : length clauses < 2 ^ 32 = omega (arith, c.len-total.type_inv, c.len-total.ensures) in
-    let stopped = subst (λ k. Fails (said_form c.args.props k (from, left)) c.loop-done.rest.now e) c.len-total.ensures c.in_err-said.ensures in
+    let stopped = subst (λ k. Fails (said_form c.args.props k (from, left)) c.loop-done.rest.now e) c.len-total.ensures
+    c.in_err-said.ensures in
     rw (p.1, p.2)
-    (fails (said_form c.args.props (length clauses) (from, left)) (entries_form c.args.props clauses c.args.count) c.args.bytes.now c.loop-done.rest.now e stopped
-    (λ at stop. entries_end c.args.props clauses c.args.count c.args.bytes.now i from c.loop-done.journal c.loop-done.rest.now at small c.requires c.loop-done-test.true c.loop-done.invariant stop))
+    (fails (said_form c.args.props (length clauses) (from, left)) (entries_form c.args.props clauses c.args.count)
+    c.args.bytes.now c.loop-done.rest.now e stopped
+    (λ at stop. entries_end c.args.props clauses c.args.count c.args.bytes.now i from c.loop-done.journal c.loop-done.rest.now at
+    small c.requires c.loop-done-test.true c.loop-done.invariant stop))
 
 pub loop-done-preserved : goal.loop-done-preserved
 loop-done-preserved c =
@@ -28,14 +31,17 @@ loop-done-preserved c =
     let from = c.loop-done.from in
     let left = c.args.count - i in
     let said = c.in_ok-said.said in
-    let taken = subst (λ k. Takes (said_form c.args.props k (from, left)) c.loop-done.rest.now said c.in_ok-said.after.now) c.len-total.ensures c.in_ok-said.ensures in
+    let taken = subst (λ k. Takes (said_form c.args.props k (from, left)) c.loop-done.rest.now said c.in_ok-said.after.now)
+    c.len-total.ensures c.in_ok-said.ensures in
     let pushed = c.in_ok-push.ensures.ok ∙ ap (λ (e : Entry). c.loop-done.journal ++ e ∷ []) c.in_ok-entry_of.ensures in
-    entries_more c.args.props clauses c.args.count c.args.bytes.now i from c.loop-done.journal c.loop-done.rest.now said c.in_ok-said.after.now c.push.new.self c.loop-done-test.true
+    entries_more c.args.props clauses c.args.count c.args.bytes.now i from c.loop-done.journal c.loop-done.rest.now said
+    c.in_ok-said.after.now c.push.new.self c.loop-done-test.true
     c.loop-done.invariant taken pushed
 
 pub returns : goal.returns
 returns c =
     let clauses = c.args.clauses.now in
     let small : length clauses < 2 ^ 32 = omega (arith, c.len-total.type_inv, c.len-total.ensures) in
-    entries_done c.args.props clauses c.args.count c.args.bytes.now c.loop-done.done c.loop-done.from c.loop-done.journal c.loop-done.rest.now small c.requires
+    entries_done c.args.props clauses c.args.count c.args.bytes.now c.loop-done.done c.loop-done.from c.loop-done.journal
+    c.loop-done.rest.now small c.requires
     (omega (arith, c.loop-done-test.false, c.loop-done.auto.done-end)) c.loop-done.invariant

@@ -14,18 +14,23 @@ returns-in_err-rest c =
     let line = c.get.result.now in
     let e = c.in_err-rest.field-0.0 in
     let small : length c.args.lines.now < 2 ^ 32 = omega (arith, c.len-prop-end.type_inv, c.len-prop-end.ensures) in
-    let stopped = subst (λ b. Fails (where_form b c.args.sizes i) c.loop-prop.rest.now e) c.does_fail-fails.ensures c.in_err-rest.ensures in
+    let stopped = subst (λ b. Fails (where_form b c.args.sizes i) c.loop-prop.rest.now e) c.does_fail-fails.ensures
+    c.in_err-rest.ensures in
     rw (p.1, p.2)
-    (fails (where_form _ c.args.sizes i) (stimuli_form c.args.sizes 0 (marks_of c.args.lines.now)) c.args.bytes.now c.loop-prop.rest.now e stopped
-    (λ left stop. stimuli_end c.args.sizes c.args.lines.now c.args.bytes.now i line c.loop-prop.stimuli c.loop-prop.rest.now left small c.get.ensures c.loop-prop.invariant stop))
+    (fails (where_form _ c.args.sizes i) (stimuli_form c.args.sizes 0 (marks_of c.args.lines.now)) c.args.bytes.now
+    c.loop-prop.rest.now e stopped
+    (λ left stop. stimuli_end c.args.sizes c.args.lines.now c.args.bytes.now i line c.loop-prop.stimuli c.loop-prop.rest.now left
+    small c.get.ensures c.loop-prop.invariant stop))
 
 pub loop-prop-preserved : goal.loop-prop-preserved
 loop-prop-preserved c =
     let i = c.loop-prop.prop in
     let line = c.get.result.now in
     let added = c.in_ok-rest.ensures in
-    let taken = subst (λ b. Takes (where_form b c.args.sizes i) c.loop-prop.rest.now added.0 c.in_ok-rest.rest.now) c.does_fail-fails.ensures added.1 in
-    stimuli_more c.args.sizes c.args.lines.now c.args.bytes.now i line c.loop-prop.stimuli c.loop-prop.rest.now added.0 c.in_ok-rest.rest.now c.take_where.new.stimuli c.get.ensures
+    let taken = subst (λ b. Takes (where_form b c.args.sizes i) c.loop-prop.rest.now added.0 c.in_ok-rest.rest.now)
+    c.does_fail-fails.ensures added.1 in
+    stimuli_more c.args.sizes c.args.lines.now c.args.bytes.now i line c.loop-prop.stimuli c.loop-prop.rest.now added.0
+    c.in_ok-rest.rest.now c.take_where.new.stimuli c.get.ensures
     c.loop-prop.invariant taken added.2
 
 pub returns : goal.returns

@@ -12,5 +12,6 @@ returns-in_err-stimulus c =
     let e = c.in_err-stimulus.field-0.0 in
     rw (p.1, p.2)
     (subst (λ b. Fails (where_form b c.args.sizes c.args.prop) c.args.bytes.now e) (sym c.if-not-fails.false)
-    (fails (stimulus_form c.args.sizes c.args.prop) (where_form true c.args.sizes c.args.prop) c.args.bytes.now c.args.bytes.now e c.in_err-stimulus.ensures
+    (fails (stimulus_form c.args.sizes c.args.prop) (where_form true c.args.sizes c.args.prop) c.args.bytes.now c.args.bytes.now e
+    c.in_err-stimulus.ensures
     (λ left stop. where_stops c.args.sizes c.args.prop c.args.bytes.now left stop)))

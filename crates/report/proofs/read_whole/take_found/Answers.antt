@@ -17,8 +17,10 @@ returns-in_err-clauses c =
     let marks = marks_of c.args.lines.now in
     let small : length marks < 2 ^ 32 = omega (arith, c.requires, length-map c.args.lines.now (λ (l : PropLine). l.mark)) in
     rw (p.1, p.2)
-    (fails (clauses_form s.vars) (found_form s marks) c.args.bytes.now c.args.bytes.now c.in_err-clauses.field-0.0 c.in_err-clauses.ensures
-    (λ left stop. stops_first (clauses_form s.vars) (λ _. stimuli_form s 0 marks) (λ _ _. (stimuli_sound s marks small).some) c.args.bytes.now left stop))
+    (fails (clauses_form s.vars) (found_form s marks) c.args.bytes.now c.args.bytes.now c.in_err-clauses.field-0.0
+    c.in_err-clauses.ensures
+    (λ left stop. stops_first (clauses_form s.vars) (λ _. stimuli_form s 0 marks) (λ _ _. (stimuli_sound s marks small).some)
+    c.args.bytes.now left stop))
 
 pub returns-in_err-stimuli : goal.returns-in_err-stimuli
 returns-in_err-stimuli c =
@@ -27,6 +29,8 @@ returns-in_err-stimuli c =
     let marks = marks_of c.args.lines.now in
     let clauses = c.in_ok-clauses.clauses in
     rw (p.1, p.2)
-    (fails (stimuli_form s 0 marks) (found_form s marks) c.args.bytes.now c.in_ok-clauses.rest.now c.in_err-stimuli.field-0.0 c.in_err-stimuli.ensures
-    (λ left stop. stops_behind (clauses_form s.vars) (λ _. stimuli_form s 0 marks) (clauses_form_sound s.vars) c.args.bytes.now (length clauses, clauses) c.in_ok-clauses.rest.now left
+    (fails (stimuli_form s 0 marks) (found_form s marks) c.args.bytes.now c.in_ok-clauses.rest.now c.in_err-stimuli.field-0.0
+    c.in_err-stimuli.ensures
+    (λ left stop. stops_behind (clauses_form s.vars) (λ _. stimuli_form s 0 marks) (clauses_form_sound s.vars) c.args.bytes.now
+    (length clauses, clauses) c.in_ok-clauses.rest.now left
     c.in_ok-clauses.ensures stop))

@@ -11,7 +11,8 @@ pub returns-in_err-sizes : goal.returns-in_err-sizes
 returns-in_err-sizes c =
     let p = err_from_is_err_and c.from_residual.result c.from_residual.ensures.1 in
     rw (p.1, p.2)
-    (fails head_form report_form c.args.bytes.now c.args.bytes.now c.in_err-sizes.field-0.0 c.in_err-sizes.ensures (λ left stop. report_stops_head c.args.bytes.now left stop))
+    (fails head_form report_form c.args.bytes.now c.args.bytes.now c.in_err-sizes.field-0.0 c.in_err-sizes.ensures
+    (λ left stop. report_stops_head c.args.bytes.now left stop))
 
 pub returns-in_err-clauses : goal.returns-in_err-clauses
 returns-in_err-clauses c =
@@ -19,7 +20,8 @@ returns-in_err-clauses c =
     let s = c.in_ok-sizes.sizes in
     let lines = c.in_ok-sizes.lines in
     rw (p.1, p.2)
-    (fails (found_form s (marks_of lines)) report_form c.args.bytes.now c.in_ok-sizes.rest.now c.in_err-clauses.field-0.0 c.in_err-clauses.ensures
+    (fails (found_form s (marks_of lines)) report_form c.args.bytes.now c.in_ok-sizes.rest.now c.in_err-clauses.field-0.0
+    c.in_err-clauses.ensures
     (λ left stop. report_stops_found c.args.bytes.now (tt, (s, lines)) c.in_ok-sizes.rest.now left c.in_ok-sizes.ensures stop))
 
 pub returns-in_err-end : goal.returns-in_err-end
@@ -30,19 +32,25 @@ returns-in_err-end c =
     let clauses = c.in_ok-clauses.clauses in
     let found : (ℕ × List (List ℕ)) × List PropStim = ((length clauses, clauses), c.in_ok-clauses.stimuli) in
     rw (p.1, p.2)
-    (fails (behind_found (tt, (s, lines)) found) report_form c.args.bytes.now c.in_ok-clauses.rest.now c.in_err-end.field-0.0 c.in_err-end.ensures
-    (λ left stop. report_stops_end c.args.bytes.now (tt, (s, lines)) c.in_ok-sizes.rest.now found c.in_ok-clauses.rest.now left c.in_ok-sizes.ensures c.in_ok-clauses.ensures stop))
+    (fails (behind_found (tt, (s, lines)) found) report_form c.args.bytes.now c.in_ok-clauses.rest.now c.in_err-end.field-0.0
+    c.in_err-end.ensures
+    (λ left stop. report_stops_end c.args.bytes.now (tt, (s, lines)) c.in_ok-sizes.rest.now found c.in_ok-clauses.rest.now left
+    c.in_ok-sizes.ensures c.in_ok-clauses.ensures stop))
 
 pub returns : goal.returns
 returns c =
     let clauses = c.in_ok-clauses.clauses in
     let end = c.in_ok-end.end in
-    report_taken c.args.bytes.now (tt, (c.in_ok-sizes.sizes, c.in_ok-sizes.lines)) c.in_ok-sizes.rest.now ((length clauses, clauses), c.in_ok-clauses.stimuli) c.in_ok-clauses.rest.now
-    (end.joined, (end.set, (end.shown, end.journal))) c.in_ok-end.rest.now c.in_ok-sizes.ensures c.in_ok-clauses.ensures c.in_ok-end.ensures
+    report_taken c.args.bytes.now (tt, (c.in_ok-sizes.sizes, c.in_ok-sizes.lines)) c.in_ok-sizes.rest.now
+    ((length clauses, clauses), c.in_ok-clauses.stimuli) c.in_ok-clauses.rest.now
+    (end.joined, (end.set, (end.shown, end.journal))) c.in_ok-end.rest.now c.in_ok-sizes.ensures c.in_ok-clauses.ensures
+    c.in_ok-end.ensures
 
 pub invariant_of-report : goal.invariant_of-report
 invariant_of-report c =
     let clauses = c.in_ok-clauses.clauses in
     let end = c.in_ok-end.end in
-    (report_taken c.args.bytes.now (tt, (c.in_ok-sizes.sizes, c.in_ok-sizes.lines)) c.in_ok-sizes.rest.now ((length clauses, clauses), c.in_ok-clauses.stimuli) c.in_ok-clauses.rest.now
-    (end.joined, (end.set, (end.shown, end.journal))) c.in_ok-end.rest.now c.in_ok-sizes.ensures c.in_ok-clauses.ensures c.in_ok-end.ensures).fits.form
+    (report_taken c.args.bytes.now (tt, (c.in_ok-sizes.sizes, c.in_ok-sizes.lines)) c.in_ok-sizes.rest.now
+    ((length clauses, clauses), c.in_ok-clauses.stimuli) c.in_ok-clauses.rest.now
+    (end.joined, (end.set, (end.shown, end.journal))) c.in_ok-end.rest.now c.in_ok-sizes.ensures c.in_ok-clauses.ensures
+    c.in_ok-end.ensures).fits.form

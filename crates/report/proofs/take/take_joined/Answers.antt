@@ -9,7 +9,10 @@ returns-in_default c = rw c.bad.ensures (read_missing (joined_read) (some_joined
 
 pub returns-in_default-joined_of : goal.returns-in_default-joined_of
 returns-in_default-joined_of c =
-    rw c.bad-in_default-joined_of.ensures (read_other (joined_read) (some_joined) c.args.bytes.now c.in-Some.line.now c.in-Some.rest.now c.in-Some.ensures.read (sym c.in_default-joined_of.ensures))
+    rw c.bad-in_default-joined_of.ensures
+    (read_other (joined_read) (some_joined) c.args.bytes.now c.in-Some.line.now c.in-Some.rest.now c.in-Some.ensures.read
+    (sym c.in_default-joined_of.ensures))
 
 pub returns : goal.returns
-returns c = read_taken (joined_read) c.args.bytes.now c.in-Some.line.now c.in-Some.rest.now c.in-Some-joined_of.joined c.in-Some.ensures.read (sym c.in-Some-joined_of.ensures)
+returns c = read_taken (joined_read) c.args.bytes.now c.in-Some.line.now c.in-Some.rest.now c.in-Some-joined_of.joined
+    c.in-Some.ensures.read (sym c.in-Some-joined_of.ensures)

@@ -17,7 +17,8 @@ returns-in_default-is_named c =
     let are = words_words words (IsOneLine-named c.args.word.now c.args.prop c.requires c.ranges.prop.fits) in
     let other = not_named c.args.word.now c.args.prop c.in-Some.line.now c.ranges.prop.fits (sym c.in_default-is_named.ensures) in
     rw c.bad-in_default-is_named.ensures
-    (other_line (λ _. Unit {0}) (λ _. words) are (some_words words) c.args.bytes.now c.in-Some.line.now c.in-Some.rest.now c.in-Some.ensures.read (λ _ _ e. other e))
+    (other_line (λ _. Unit {0}) (λ _. words) are (some_words words) c.args.bytes.now c.in-Some.line.now c.in-Some.rest.now
+    c.in-Some.ensures.read (λ _ _ e. other e))
 
 pub returns : goal.returns
 returns c =

@@ -9,7 +9,10 @@ returns-in_default c = rw c.bad.ensures (read_missing (sizes_read) (some_sizes) 
 
 pub returns-in_default-sizes_of : goal.returns-in_default-sizes_of
 returns-in_default-sizes_of c =
-    rw c.bad-in_default-sizes_of.ensures (read_other (sizes_read) (some_sizes) c.args.bytes.now c.in-Some.line.now c.in-Some.rest.now c.in-Some.ensures.read (sym c.in_default-sizes_of.ensures))
+    rw c.bad-in_default-sizes_of.ensures
+    (read_other (sizes_read) (some_sizes) c.args.bytes.now c.in-Some.line.now c.in-Some.rest.now c.in-Some.ensures.read
+    (sym c.in_default-sizes_of.ensures))
 
 pub returns : goal.returns
-returns c = read_taken (sizes_read) c.args.bytes.now c.in-Some.line.now c.in-Some.rest.now c.in-Some-sizes_of.sizes c.in-Some.ensures.read (sym c.in-Some-sizes_of.ensures)
+returns c = read_taken (sizes_read) c.args.bytes.now c.in-Some.line.now c.in-Some.rest.now c.in-Some-sizes_of.sizes
+    c.in-Some.ensures.read (sym c.in-Some-sizes_of.ensures)

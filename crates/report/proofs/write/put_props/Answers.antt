@@ -11,6 +11,8 @@ loop-prop-preserved c =
     let less = slice_get_within c.args.lines.now c.loop-prop.prop line c.get.ensures in
     let is = sym (get_or_from_slice_get c.args.lines.now c.loop-prop.prop line line c.get.ensures) in
     record {
-      text = props_more c.args.text.now c.loop-prop.text _ c.args.lines.now c.loop-prop.prop line less is c.loop-prop.invariant.text c.in_ok-put_prop.ensures.text;
-      small = all_more (λ (l : PropLine). IsSmallMark l.mark) c.args.lines.now c.loop-prop.prop line less is c.loop-prop.invariant.small c.in_ok-put_prop.ensures.small;
+      text = props_more c.args.text.now c.loop-prop.text _ c.args.lines.now c.loop-prop.prop line less is
+          c.loop-prop.invariant.text c.in_ok-put_prop.ensures.text;
+      small = all_more (λ (l : PropLine). IsSmallMark l.mark) c.args.lines.now c.loop-prop.prop line less is
+          c.loop-prop.invariant.small c.in_ok-put_prop.ensures.small;
     }
