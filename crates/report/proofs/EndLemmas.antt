@@ -1,15 +1,15 @@
 -- The end of a report: what is taken, and where reading stops.
-use Rattle.std.proofs.Common.{◌≡◌, ℕ, suc, ◌+◌, ◌<◌, ◌^◌, Bool, true, false, List, [], ◌∷◌, ◌++◌, length, Option, Some, None, refl, sym, ap, subst, ◌∙◌, append_assoc, append-nil, arith, inl}
+use Rattle.std.proofs.Common.{◌≡◌, ℕ, suc, ◌<◌, ◌^◌, Bool, true, false, List, [], ◌∷◌, ◌++◌, length, Option, Some, None, refl, sym, ap, subst, ◌∙◌, append_assoc, inl}
 use Rattle.std.specs.Prelude.{⊤, codes, decimal, IfSome}
 use Rattle.ja_text.specs.Lines.{IsOneLine}
 use Rattle.store_core.specs.declared.journal.Entry.{Entry}
 use Rattle.report.specs.declared.what.Said.{Said}
-use Rattle.report.specs.Reports.{AreLines, line_of, entry_lines, journal_text, joined_words, set_words}
+use Rattle.report.specs.Reports.{line_of, entry_lines, joined_words, set_words}
 use Rattle.report.specs.Forms.{Form, Takes, Stops, then}
 use Rattle.report.specs.Sections.{words_form, IsSet, joined_form, set_form, journal_words, IsEntryCount, journal_form}
 use Rattle.report.specs.JournalLines.{entries_of, AreEntries, entries_form}
-use Rattle.report.specs.Whole.{IsEnding, tail_form, end_form}
-use Rattle.report.proofs.FormLemmas.{IsSound, HasSome, IsPart, same_stops, same_sound, stops_first, stops_behind, then_sound, then_takes, line_sound, read_words}
+use Rattle.report.specs.Whole.{tail_form, end_form}
+use Rattle.report.proofs.FormLemmas.{IsSound, IsPart, same_stops, same_sound, stops_first, stops_behind, then_sound, then_takes, line_sound, read_words}
 use Rattle.report.proofs.DecodeLemmas.{IsOneLine-tested, words_words, joined_read, journal_read}
 use Rattle.report.proofs.NumbersLemmas.{set_are_words}
 use Rattle.report.proofs.SectionLemmas.{some_words, some_joined, some_set, some_journal}

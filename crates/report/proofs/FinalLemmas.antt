@@ -1,26 +1,25 @@
 -- What a report is read of, all of the bytes, and why bytes are refused.
-use Rattle.std.proofs.Common.{◌≡◌, ◌≢◌, ℕ, suc, ◌+◌, ◌-◌, ◌<◌, ◌≤◌, ◌^◌, Bool, true, false, not, cond, ◌&&◌, ◌||◌, eqb, List, [], ◌∷◌, ◌++◌, length, length-append, take, drop, take_at, Option, Some, None, option_map, is_some, refl, sym, ap, subst, ◌∙◌, append_assoc, append-nil, arith, eqb-true, eq-eqb}
+use Rattle.std.proofs.Common.{◌≡◌, ◌≢◌, ℕ, ◌+◌, ◌-◌, ◌<◌, ◌≤◌, ◌^◌, Bool, true, false, not, cond, ◌&&◌, eqb, List, [], ◌∷◌, ◌++◌, length, length-append, take, drop, take_at, Option, Some, None, option_map, is_some, refl, sym, ap, subst, ◌∙◌, append_assoc, append-nil, arith, eqb-true, eq-eqb}
 use Rattle.std.specs.Prelude.{⊤, codes, decimal, bytes_eq}
 use Rattle.std.specs.List.{AllByRecursion, list_all, flat_map}
 use Rattle.std.proofs.lemmas.Bool.Decides.{nat_tests}
 use Rattle.std.proofs.lemmas.Bool.{eqb-false}
-use Rattle.std.proofs.lemmas.Option.{same_Some}
 use Rattle.std.proofs.lemmas.Slice.Eq.{bytes_eq-Decides}
 use Rattle.ja_base.specs.declared.memory.OrMemory.{OrMemory}
 use Rattle.ja_base.specs.declared.memory.OrMemory.TheVariants.{Refused, Memory}
 use Rattle.ja_text.specs.Numbers.{IsDigit, is_digit, HasNoLeadingZero}
-use Rattle.ja_text.specs.Lines.{IsOneLine, line_at, word_at}
+use Rattle.ja_text.specs.Lines.{line_at, word_at}
 use Rattle.ja_text.proofs.ByteLemmas.{word_takes, word_again}
 use Rattle.ja_text.proofs.LineLemmas.{line_takes, line_again, line_one}
 use Rattle.ja_text.proofs.NumberLemmas.{digit_true, digit_is}
 use Rattle.store_core.specs.declared.journal.Entry.{Entry}
 use Rattle.report.specs.declared.line.BadLine.{BadLine}
 use Rattle.report.specs.Findings.{Findings, as_shown}
-use Rattle.report.specs.Reports.{IfShown, IsReport, IsSmall, IsReportText, IsOtherVersion, BeginsReport, IsBadLine, IsShownJournal, line_count, line_of, sizes_words, prop_lines, clause_words, stimulus_lines, joined_words, set_words, journal_text, report_text}
+use Rattle.report.specs.Reports.{IfShown, IsReport, IsSmall, IsReportText, IsOtherVersion, IsBadLine, IsShownJournal, line_count, line_of, sizes_words, prop_lines, clause_words, stimulus_lines, joined_words, set_words, journal_text, report_text}
 use Rattle.report.specs.Forms.{Takes, Stops, Fails, texts_from}
 use Rattle.report.specs.Sections.{prop_form}
 use Rattle.report.specs.Lines.{where_true}
-use Rattle.report.specs.Tokens.{◌>>=◌, has_leading_zero}
+use Rattle.report.specs.Tokens.{has_leading_zero}
 use Rattle.report.specs.Whole.{IsRead, report_form, IsBadFrom, Spells, FailsWhole, is_other, other_at}
 use Rattle.report.proofs.TokenLemmas.{bind_some}
 use Rattle.report.proofs.DecodeLemmas.{IsOneLine-append, IsOneLine-tested, no_newlines, where_is}

@@ -1,13 +1,13 @@
 -- Forms that are made of others: what is taken, and where reading stops.
-use Rattle.std.proofs.Common.{◌≡◌, ℕ, ◌+◌, List, [], ◌∷◌, ◌++◌, length, Option, Some, None, refl, sym, ap, subst, ◌∙◌, append_assoc, append-nil, inl, inr}
+use Rattle.std.proofs.Common.{◌≡◌, ℕ, List, [], ◌∷◌, ◌++◌, length, Option, Some, None, refl, sym, ap, subst, ◌∙◌, append_assoc, append-nil, inl, inr}
 use Rattle.std.proofs.lemmas.Option.{same_Some, some_pair_parts}
 use Rattle.ja_text.specs.Lines.{IsOneLine, line_at}
-use Rattle.ja_text.proofs.LineLemmas.{line_takes, line_again, line_one, line_none, line_missing}
+use Rattle.ja_text.proofs.LineLemmas.{line_takes, line_again, line_one}
 use Rattle.report.specs.Reports.{AreLines}
 use Rattle.ja_base.specs.declared.memory.OrMemory.{OrMemory}
 use Rattle.ja_base.specs.declared.memory.OrMemory.TheVariants.{Refused, Memory}
 use Rattle.report.specs.declared.line.BadLine.{BadLine}
-use Rattle.report.specs.Forms.{Form, Takes, TakesNone, Begins, Stops, Fails, line_form, then}
+use Rattle.report.specs.Forms.{Form, Takes, TakesNone, Stops, Fails, line_form, then}
 
 -- no bytes begin with the texts of two values
 abbrev pub IsOne : {X : Type 0} → Form X → Type 0

@@ -1,28 +1,19 @@
 -- The entries of a journal: what is taken, and where reading stops.
-use Rattle.std.proofs.Common.{◌≡◌, ℕ, zero, suc, ◌+◌, ◌-◌, ◌<◌, ◌≤◌, ◌^◌, Bool, true, false, not, ◌&&◌, ◌||◌, eqb, leb, ltb, List, [], ◌∷◌, ◌++◌, length, length-append, length-take, length-drop, take, drop, take-append-drop, take_at, drop_at, drop-drop, get_or, get_or-drop, slice_get, Option, Some, None, refl, sym, ap, subst, ◌∙◌, append_assoc, append-nil, arith}
+use Rattle.std.proofs.Common.{◌≡◌, ℕ, zero, suc, ◌+◌, ◌-◌, ◌<◌, ◌≤◌, ◌^◌, Bool, true, false, not, ◌&&◌, ◌||◌, eqb, leb, List, [], ◌∷◌, ◌++◌, length, length-take, length-drop, take, drop, take-append-drop, drop-drop, get_or, get_or-drop, slice_get, Option, Some, None, refl, sym, ap, subst, ◌∙◌, arith}
 use Rattle.std.specs.Prelude.{codes, decimal, IfSome}
-use Rattle.std.specs.List.{AllByRecursion, flat_map}
 use Rattle.std.proofs.lemmas.Bool.Decides.{nat_tests}
 use Rattle.std.proofs.Math.Seq.{take-suc}
 use Rattle.std.proofs.lemmas.Option.{same_Some, slice_get_within, get_or_from_slice_get}
-use Rattle.ja_text.specs.Lines.{IsOneLine}
-use Rattle.store_core.specs.declared.journal.Event.{Event}
-use Rattle.store_core.specs.declared.journal.Event.TheVariants.{Draw, Import, Publish, Settle, Cancel, GiveUp}
-use Rattle.store_core.specs.declared.journal.Reply.{Reply}
-use Rattle.store_core.specs.declared.journal.Reply.TheVariants as reply
 use Rattle.store_core.specs.declared.journal.Entry.{Entry}
-use Rattle.store_core.specs.declared.mark.Mark.{Mark}
-use Rattle.store_core.specs.declared.mark.Mark.TheVariants.{Proved, Fails, Budget, Cancelled}
 use Rattle.report.specs.declared.what.Said.{Said}
 use Rattle.report.specs.declared.what.What.{What}
 use Rattle.report.specs.declared.what.What.TheVariants.{Draws, DrawsNone, Imports, Publishes, Settles, SettlesHad, Cancels, CancelsNot, GivesUp, GoesOn, GivesUpHad}
 use Rattle.report.specs.Entries as entries
 use Rattle.report.specs.Entries.{HasSmallMarks, may_append, property_of, what_of, added_by, count_behind, entry_words}
 use Rattle.report.specs.Reports.{line_of, entry_lines}
-use Rattle.report.specs.Forms.{Form, Takes, Stops, times, texts_from, FitFrom, FitTimes, line_form}
+use Rattle.report.specs.Forms.{Takes, Stops, times, texts_from, FitFrom}
 use Rattle.report.specs.Lines.{where_true}
-use Rattle.report.specs.Tokens.{◌>>=◌}
-use Rattle.report.specs.JournalLines.{said_of, said_words, IsSmallSaid, is_within, is_counted, is_due, due_of, IsDueSaid, said_form, said_next, saids_form, event_of, reply_of, between, entry_of, entries_of, AreEntries, entries_form}
+use Rattle.report.specs.JournalLines.{said_of, said_words, is_within, is_counted, is_due, due_of, IsDueSaid, said_form, said_next, saids_form, event_of, reply_of, between, entry_of, entries_of, entries_form}
 use Rattle.report.proofs.FormLemmas.{HasSome, IsSound, IsPart, IsRead, same_stops, same_sound, line_sound, read_words}
 use Rattle.report.proofs.TimesLemmas.{IsMet, state_behind, state-push, times_none, times_more, times_ends, times_sound}
 use Rattle.report.proofs.TokenLemmas.{bind_some}

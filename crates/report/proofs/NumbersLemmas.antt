@@ -1,5 +1,5 @@
 -- Numbers in a line are read as they are written, and what is written so is read so.
-use Rattle.std.proofs.Common.{◌≡◌, ℕ, ◌+◌, ◌*◌, ◌<◌, ◌≤◌, ◌^◌, Bool, true, false, ◌&&◌, ◌||◌, not, eqb, leb, ltb, List, [], ◌∷◌, ◌++◌, length, length-append, Option, Some, None, IsTrue, ◌↔◌, refl, sym, ap, subst, ◌∙◌, append_assoc, append-nil, arith, eqb-true, eq-eqb}
+use Rattle.std.proofs.Common.{◌≡◌, ℕ, ◌+◌, ◌*◌, ◌<◌, ◌≤◌, ◌^◌, Bool, true, false, ◌&&◌, eqb, leb, ltb, List, [], ◌∷◌, ◌++◌, length, length-append, Option, Some, None, IsTrue, ◌↔◌, refl, sym, ap, subst, ◌∙◌, append_assoc, append-nil, arith, eqb-true, eq-eqb}
 use Rattle.std.specs.Prelude.{codes, decimal}
 use Rattle.std.specs.List.{AllByRecursion, flat_map, list_all}
 use Rattle.std.specs.List.Sorted.{IsStrictlyIncreasing}
@@ -14,11 +14,11 @@ use Rattle.ja_text.proofs.ByteLemmas.{word_takes, word_again}
 use Rattle.ja_text.proofs.DecimalLemmas.{decimal_is_number}
 use Rattle.report.specs.Reports.{IsReportClause, spaced, clause_words, member_words, set_words}
 use Rattle.report.specs.Tokens.{small_at, small_behind}
-use Rattle.report.specs.Numbers.{AreSmall, behind, TakesAll, AreNumbers, IsFound}
+use Rattle.report.specs.Numbers.{AreSmall, behind, TakesAll, AreNumbers}
 use Rattle.report.specs.Sections.{IsHeldClause, IsSet}
 use Rattle.report.proofs.FormLemmas.{IsWords}
 use Rattle.report.proofs.TokenLemmas.{small_takes, small_again, behind_takes, behind_again}
-use Rattle.report.proofs.DecodeLemmas.{IsOneLine-append, IsOneLine-small, IsOneLine-tested, told, untold}
+use Rattle.report.proofs.DecodeLemmas.{IsOneLine-append, IsOneLine-small, IsOneLine-tested}
 
 -- a number is taken behind the word
 abbrev pub TakesOne : List ℕ → List ℕ → ℕ → List ℕ → Type 0

@@ -1,5 +1,5 @@
 -- The forms of a report have texts, and are whole lines.
-use Rattle.std.proofs.Common.{◌≡◌, ℕ, ◌+◌, ◌<◌, ◌≤◌, ◌^◌, Bool, true, false, List, [], ◌∷◌, ◌++◌, length, replicate, Some, None, refl, sym, ap, subst, ◌∙◌, arith}
+use Rattle.std.proofs.Common.{◌≡◌, ℕ, ◌+◌, ◌<◌, ◌≤◌, ◌^◌, true, false, List, [], ◌∷◌, ◌++◌, length, replicate, None, refl, sym, subst, ◌∙◌, arith}
 use Rattle.std.specs.Prelude.{⊤, codes, decimal}
 use Rattle.std.specs.List.Sorted.{IsStrictlyIncreasing}
 use Rattle.std.proofs.lemmas.List.{length-replicate}
@@ -7,7 +7,7 @@ use Rattle.store_core.specs.declared.mark.Mark.TheVariants.{Proved}
 use Rattle.report.specs.declared.parts.PropLine.{PropLine}
 use Rattle.report.specs.Entries.{IsSmallMark}
 use Rattle.report.specs.Reports.{prop_words, clause_words}
-use Rattle.report.specs.Forms.{Form, Takes, Stops}
+use Rattle.report.specs.Forms.{Takes, Stops}
 use Rattle.report.specs.Sections.{words_form, count_form, sizes_form, prop_form, props_form, IsHeldClause, clause_form, clause_lines_form, set_form, row_form, next_row_form, joined_form, journal_form}
 use Rattle.report.proofs.FormLemmas.{HasSome, IsSound, line_sound, read_words}
 use Rattle.report.proofs.TimesLemmas.{IsMet, state_behind, times_more, times_ends, times_sound}

@@ -1,5 +1,5 @@
 -- The journal of a report and its lines: the entries of lines are answered, and entries that are answered have lines.
-use Rattle.std.proofs.Common.{◌≡◌, ℕ, zero, suc, ◌+◌, ◌-◌, ◌<◌, ◌≤◌, ◌^◌, Bool, true, false, List, [], ◌∷◌, ◌++◌, length, length-append, length-drop, take, drop, take_at, drop_at, drop-drop, Option, Some, None, refl, sym, ap, subst, ◌∙◌, append_assoc, append-nil, arith}
+use Rattle.std.proofs.Common.{◌≡◌, ℕ, zero, suc, ◌+◌, ◌-◌, ◌<◌, ◌≤◌, ◌^◌, false, List, [], ◌∷◌, ◌++◌, length, length-append, length-drop, take, drop, take_at, drop_at, drop-drop, Option, Some, None, refl, sym, ap, subst, ◌∙◌, arith}
 use Rattle.std.specs.Prelude.{IfSome}
 use Rattle.std.specs.List.{AllByRecursion, flat_map}
 use Rattle.std.proofs.lemmas.List.{nil_from_length}
@@ -15,9 +15,9 @@ use Rattle.report.specs.declared.what.Said.{Said}
 use Rattle.report.specs.declared.what.What.{What}
 use Rattle.report.specs.declared.what.What.TheVariants.{Draws, DrawsNone, Imports, Publishes, Settles, SettlesHad, Cancels, CancelsNot, GivesUp, GoesOn, GivesUpHad}
 use Rattle.report.specs.Entries.{HasSmallMarks, may_append, property_of, draw_what, import_what, publish_what, settle_what, cancel_what, give_up_what, what_of, added_by, count_behind, IsAnswered, AreAnswered, IsSmallEntry}
-use Rattle.report.specs.Forms.{FitFrom, FitTimes}
+use Rattle.report.specs.Forms.{FitFrom}
 use Rattle.report.specs.Sections.{IsEntryCount}
-use Rattle.report.specs.JournalLines.{IsSmallSaid, IsDueSaid, said_form, said_next, saids_form, event_of, reply_of, between, entry_of, entries_of, AreEntries}
+use Rattle.report.specs.JournalLines.{IsSmallSaid, IsDueSaid, said_form, said_next, event_of, reply_of, between, entry_of, entries_of, AreEntries}
 use Rattle.report.proofs.JournalLemmas.{Counts, counts_of, due_within, due_whole, Met, met_next, met_first, between_rest, says_what, counts_reply, stays_none, added_is, count_is}
 
 -- ---- the entries of lines

@@ -1,5 +1,5 @@
 -- Stimuli in a report: what is taken, and where reading stops.
-use Rattle.std.proofs.Common.{◌≡◌, ℕ, zero, suc, ◌+◌, ◌<◌, ◌≤◌, ◌^◌, Bool, true, false, cond, List, [], ◌∷◌, ◌++◌, length, length-append, map, drop, Option, Some, None, slice_get, get_or, refl, sym, ap, subst, ◌∙◌, append_assoc, append-nil, inl, inr, add-one, arith}
+use Rattle.std.proofs.Common.{◌≡◌, ℕ, zero, suc, ◌+◌, ◌<◌, ◌≤◌, ◌^◌, Bool, true, false, cond, List, [], ◌∷◌, ◌++◌, length, length-append, map, drop, Option, Some, None, slice_get, get_or, refl, sym, ap, subst, ◌∙◌, append_assoc, append-nil, inl, inr, arith}
 use Rattle.std.specs.Prelude.{⊤, codes, decimal, IfSome}
 use Rattle.std.specs.List.{AllByRecursion, flat_map}
 use Rattle.std.proofs.lemmas.List.{length-map}
@@ -15,11 +15,11 @@ use Rattle.report.specs.declared.parts.PropLine.{PropLine}
 use Rattle.report.specs.declared.parts.PropStim.{PropStim}
 use Rattle.report.specs.declared.parts.Sizes.{Sizes}
 use Rattle.report.specs.Findings.{marks_of, failing_from}
-use Rattle.report.specs.Reports.{AreLines, HasWidths, line_of, stimulus_lines}
-use Rattle.report.specs.Forms.{Form, Takes, Stops, then, nothing, times, texts_from, FitFrom, FitTimes}
-use Rattle.report.specs.Sections.{words_form, named_form, row_form, next_row_words, next_row_form, rows_form, AreInputs, inputs_form, names_form, IsStimulusOf, stimulus_form, AreStimuliOf, where_form, AreStimuli, stimuli_form}
-use Rattle.report.proofs.FormLemmas.{IsSound, HasSome, IsPart, AreLines-append, same_stops, same_sound, stops_first, stops_behind, then_sound, then_takes, line_sound, read_words}
-use Rattle.report.proofs.TimesLemmas.{nothing_sound, IsMet, state_behind, times_none, times_more, times_ends, times_sound}
+use Rattle.report.specs.Reports.{HasWidths, line_of, stimulus_lines}
+use Rattle.report.specs.Forms.{Form, Takes, Stops, then, times, texts_from, FitFrom}
+use Rattle.report.specs.Sections.{words_form, named_form, row_form, next_row_words, next_row_form, rows_form, AreInputs, inputs_form, names_form, stimulus_form, AreStimuliOf, where_form, AreStimuli, stimuli_form}
+use Rattle.report.proofs.FormLemmas.{IsSound, HasSome, IsPart, same_stops, same_sound, stops_first, stops_behind, then_sound, line_sound, read_words}
+use Rattle.report.proofs.TimesLemmas.{IsMet, state_behind, times_none, times_more, times_ends, times_sound}
 use Rattle.report.proofs.DecodeLemmas.{IsOneLine-tested, IsOneLine-named, words_words, row_read, next_row_read}
 use Rattle.report.proofs.SectionLemmas.{some_words, some_row, some_next_row}
 

@@ -1,8 +1,8 @@
 -- Forms that are repeated, as a loop takes them.
-use Rattle.std.proofs.Common.{◌≡◌, ℕ, zero, suc, ◌+◌, ◌-◌, ◌<◌, ◌≤◌, List, [], ◌∷◌, ◌++◌, length, length-append, refl, sym, ap, subst, ◌∙◌, append_assoc, append-nil, inl, inr, arith}
+use Rattle.std.proofs.Common.{◌≡◌, ℕ, zero, suc, ◌+◌, ◌<◌, List, [], ◌∷◌, ◌++◌, length-append, refl, sym, ap, subst, ◌∙◌, append_assoc, append-nil, inl, arith}
 use Rattle.report.specs.Reports.{AreLines}
-use Rattle.report.specs.Forms.{Form, Takes, TakesNone, Stops, then, nothing, texts_from, FitFrom, FitTimes, times}
-use Rattle.report.proofs.FormLemmas.{IsOne, HasSome, IsSound, AreLines-append, IsPart, same_stops, stops_first, stops_behind}
+use Rattle.report.specs.Forms.{Form, Takes, Stops, then, nothing, texts_from, FitFrom, FitTimes, times}
+use Rattle.report.proofs.FormLemmas.{HasSome, IsSound, AreLines-append, IsPart, same_stops, stops_first, stops_behind}
 
 pub nothing_sound : IsSound nothing
 nothing_sound = record { one = λ x a y b fx fy e. (refl, e); some = (tt, tt); lines = λ x fits. inl refl }

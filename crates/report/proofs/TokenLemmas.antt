@@ -1,5 +1,5 @@
 -- Numbers and marks are read as they are written, and what is written so is read so.
-use Rattle.std.proofs.Common.{◌≡◌, ◌≢◌, ℕ, ◌-◌, ◌<◌, ◌≤◌, ◌^◌, min, Bool, true, false, not, cond, ◌&&◌, ◌||◌, eqb, ltb, List, [], ◌∷◌, ◌++◌, length, take, Option, Some, None, refl, sym, ap, subst, ◌∙◌, length-append, take_at, append_assoc, arith, eqb-true, eq-eqb}
+use Rattle.std.proofs.Common.{◌≡◌, ◌≢◌, ℕ, ◌-◌, ◌<◌, ◌≤◌, ◌^◌, min, Bool, true, false, not, cond, ◌&&◌, ◌||◌, eqb, ltb, List, [], ◌∷◌, ◌++◌, length, take, Option, Some, None, refl, sym, ap, subst, ◌∙◌, length-append, take_at, append_assoc, arith, eqb-true}
 use Rattle.std.specs.Prelude.{decimal, codes, bytes_eq}
 use Rattle.std.specs.Fmt.{digits}
 use Rattle.std.proofs.lemmas.Bool.Decides.{nat_tests}
@@ -7,7 +7,7 @@ use Rattle.std.proofs.lemmas.Bool.{ltb-false, le-ltb, eqb-false}
 use Rattle.std.proofs.lemmas.Option.{some_pair_parts}
 use Rattle.std.proofs.lemmas.Slice.Eq.{bytes_eq-Decides}
 use Rattle.ja_text.specs.Numbers.{is_digit, value_of, IsNumber, TakesNumber, HasNoLeadingZero, BeginsWithoutDigit, number_at}
-use Rattle.ja_text.specs.Lines.{IsOneLine, word_at}
+use Rattle.ja_text.specs.Lines.{word_at}
 use Rattle.ja_text.proofs.ByteLemmas.{word_takes, word_again}
 use Rattle.ja_text.proofs.NumberLemmas.{digit_true, number_takes, number_again}
 use Rattle.ja_text.proofs.DecimalLemmas.{decimal_is_canonical, canonical_is_decimal}

@@ -1,7 +1,7 @@
 -- Lines of a journal are read as they are written, and what is written so is read so.
-use Rattle.std.proofs.Common.{◌≡◌, ℕ, ◌<◌, ◌^◌, List, [], ◌∷◌, ◌++◌, Option, Some, None, refl, sym, ap, subst, ◌∙◌, append_assoc, append-nil, arith}
+use Rattle.std.proofs.Common.{◌≡◌, ℕ, ◌<◌, ◌^◌, List, [], ◌∷◌, ◌++◌, Option, Some, None, refl, sym, ap, subst, ◌∙◌, append_assoc, append-nil}
 use Rattle.std.specs.Prelude.{codes, decimal, IfSome}
-use Rattle.std.proofs.lemmas.Option.{same_Some, some_pair_parts}
+use Rattle.std.proofs.lemmas.Option.{some_pair_parts}
 use Rattle.ja_text.specs.Numbers.{BeginsWithoutDigit}
 use Rattle.ja_text.specs.Lines.{IsOneLine, space_at, word_at}
 use Rattle.ja_text.proofs.ByteLemmas.{space_takes, space_again, word_takes}
@@ -10,8 +10,7 @@ use Rattle.report.specs.declared.what.Said.{Said}
 use Rattle.report.specs.declared.what.What.{What}
 use Rattle.report.specs.declared.what.What.TheVariants.{Draws, DrawsNone, Imports, Publishes, Settles, SettlesHad, Cancels, CancelsNot, GivesUp, GoesOn, GivesUpHad}
 use Rattle.report.specs.Entries.{HasSmallMarks, IsSmallMark, property_of, property_words, property_word, mark_words, what_head, what_tail, what_words}
-use Rattle.report.specs.Lines.{ended}
-use Rattle.report.specs.Tokens.{◌>>=◌, small_at, small_behind, mark_at}
+use Rattle.report.specs.Tokens.{small_at, small_behind, mark_at}
 use Rattle.report.specs.JournalLines.{property_at, had_at, draw_behind, draw_at, settle_behind, settle_at, cancel_behind, cancel_at, give_up_behind, give_up_at, first_event, what_at, said_of, said_words, IsSmallSaid}
 use Rattle.report.proofs.FormLemmas.{IsRead}
 use Rattle.report.proofs.TokenLemmas.{bind_some, small_takes, small_again, behind_takes, behind_again, mark_takes, mark_again}

@@ -1,6 +1,6 @@
 -- A report as one form behind another, and as its record.
-use Rattle.std.proofs.Common.{◌≡◌, ℕ, zero, suc, ◌+◌, ◌-◌, ◌<◌, ◌≤◌, ◌^◌, Bool, true, false, List, [], ◌∷◌, ◌++◌, length, length-append, length-drop, map, take, drop, take_at, drop_at, Option, Some, None, refl, sym, ap, subst, ◌∙◌, append_assoc, append-nil, inl, inr, arith}
-use Rattle.std.specs.Prelude.{⊤, codes, decimal, IfSome}
+use Rattle.std.proofs.Common.{◌≡◌, ℕ, ◌+◌, ◌<◌, ◌^◌, Bool, true, false, List, [], ◌∷◌, ◌++◌, length, refl, sym, ap, ◌∙◌, append_assoc, arith}
+use Rattle.std.specs.Prelude.{⊤, codes, decimal}
 use Rattle.std.specs.List.{AllByRecursion, flat_map}
 use Rattle.std.proofs.lemmas.List.{length-map}
 use Rattle.std.proofs.lemmas.List.Concat.{flat_map-cons}
@@ -12,9 +12,9 @@ use Rattle.report.specs.declared.parts.PropStim.{PropStim}
 use Rattle.report.specs.declared.parts.Sizes.{Sizes}
 use Rattle.report.specs.Entries.{IsSmallMark, IsSmallEntry}
 use Rattle.report.specs.Findings.{Findings, marks_of}
-use Rattle.report.specs.Reports.{AreLines, IfShown, IsShownJournal, IsReportClause, AreSmallSizes, sizes_words, prop_words, prop_lines, clause_words, line_of, stimulus_lines, joined_words, set_words, journal_text, report_text}
-use Rattle.report.specs.Forms.{Form, Takes, Stops, then, texts_from, FitFrom, times}
-use Rattle.report.specs.Sections.{IsEntryCount, words_form, sizes_form, prop_form, props_form, IsHeldClause, clause_form, clause_lines_form, clauses_form, count_form, stimuli_form}
+use Rattle.report.specs.Reports.{IfShown, IsShownJournal, IsReportClause, AreSmallSizes, sizes_words, prop_words, prop_lines, clause_words, line_of, stimulus_lines, joined_words, set_words, journal_text, report_text}
+use Rattle.report.specs.Forms.{Form, Takes, Stops, then, texts_from, FitFrom}
+use Rattle.report.specs.Sections.{words_form, sizes_form, prop_form, props_form, clause_form, clause_lines_form, clauses_form, count_form, stimuli_form}
 use Rattle.report.specs.Whole.{IsEnding, head_form, found_form, end_form, IsRead, report_form}
 use Rattle.report.proofs.FormLemmas.{IsSound, IsPart, same_stops, same_sound, stops_first, stops_behind, then_sound, then_takes, line_sound, read_words}
 use Rattle.report.proofs.DecodeLemmas.{IsOneLine-tested, words_words, sizes_read}

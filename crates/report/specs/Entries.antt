@@ -1,6 +1,5 @@
 -- What the lines of a journal say.
 use Rattle.std.specs.Prelude.{◌≡◌, ℕ, ◌+◌, ◌<◌, ◌^◌, ⊤, Bool, true, false, List, [], ◌∷◌, ◌++◌, length, codes, decimal, Option, Some, None, IfSome}
-use Rattle.std.specs.List.{AllByRecursion}
 use Rattle.store_core.specs.declared.journal.Event.{Event}
 use Rattle.store_core.specs.declared.journal.Event.TheVariants.{Draw, Import, Publish, Settle, Cancel, GiveUp}
 use Rattle.store_core.specs.declared.journal.Reply.{Reply}

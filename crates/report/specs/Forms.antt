@@ -1,7 +1,7 @@
 -- Forms of text in whole lines: which values have a text and which one, and where bytes leave a form. A reader takes the text at
 -- the
 -- front and answers what follows it, or how many bytes are left from the first line on that no text of the form has there.
-use Rattle.std.specs.Prelude.{◌≡◌, ℕ, ⊤, ◌⊎◌, List, [], ◌∷◌, ◌++◌, length, Result, Ok, Err}
+use Rattle.std.specs.Prelude.{◌≡◌, ℕ, ⊤, List, [], ◌∷◌, ◌++◌, length, Result, Ok, Err}
 use Rattle.ja_base.specs.declared.memory.OrMemory.{OrMemory}
 use Rattle.ja_base.specs.declared.memory.OrMemory.TheVariants.{Refused, Memory}
 use Rattle.ja_text.specs.Lines.{IsOneLine}

@@ -1,16 +1,15 @@
 -- The forms of which the text of a report is made.
-use Rattle.std.specs.Prelude.{◌≡◌, ℕ, zero, suc, ◌+◌, ◌<◌, ◌≤◌, ◌^◌, ⊤, Bool, true, false, List, [], ◌∷◌, ◌++◌, length, map, flat_map, codes, decimal, Option, Some, None, IfSome, Result, Ok, Err}
+use Rattle.std.specs.Prelude.{◌≡◌, ℕ, ◌+◌, ◌<◌, ◌^◌, ⊤, Bool, true, false, List, [], ◌∷◌, ◌++◌, length, map, flat_map, codes, decimal, Option, Some, None, IfSome, Result, Ok, Err}
 use Rattle.std.specs.List.{AllByRecursion}
 use Rattle.std.specs.List.Sorted.{IsStrictlyIncreasing}
-use Rattle.ja_base.specs.Runs.{Trace}
 use Rattle.local_stim.specs.StimulusText.{bit_character, row_line}
 use Rattle.store_core.specs.declared.mark.Mark.{Mark}
 use Rattle.report.specs.declared.parts.PropLine.{PropLine}
 use Rattle.report.specs.declared.parts.PropStim.{PropStim}
 use Rattle.report.specs.declared.parts.Sizes.{Sizes}
-use Rattle.report.specs.Entries.{IsSmallMark, property_word}
-use Rattle.report.specs.Findings.{failing_from, marks_of}
-use Rattle.report.specs.Reports.{IsReportClause, HasWidths, AreSmallSizes, sizes_words, prop_words, prop_lines, clause_words, stimulus_lines, joined_words, set_words, line_of}
+use Rattle.report.specs.Entries.{IsSmallMark}
+use Rattle.report.specs.Findings.{failing_from}
+use Rattle.report.specs.Reports.{IsReportClause, HasWidths, AreSmallSizes, sizes_words, prop_words, clause_words, stimulus_lines, joined_words, set_words}
 use Rattle.ja_base.specs.declared.memory.OrMemory.{OrMemory}
 use Rattle.report.specs.declared.line.BadLine.{BadLine}
 use Rattle.report.specs.Forms.{Form, Takes, Fails, line_form, then, times}

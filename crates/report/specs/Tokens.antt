@@ -1,11 +1,9 @@
 -- What stands at the front of what is left of a line, as it is read: its value, and what follows it.
 use Rattle.std.specs.Prelude.{ℕ, ◌-◌, ◌==◌, ◌&&◌, ◌||◌, Bool, false, not, nat_lt, if◌then◌else◌, List, [], ◌∷◌, length, take, bytes_eq, codes, Option, Some, None}
 use Rattle.ja_text.specs.Numbers.{is_digit, number_at}
-use Rattle.ja_text.specs.Lines.{space_at, word_at}
+use Rattle.ja_text.specs.Lines.{word_at}
 use Rattle.store_core.specs.declared.mark.Mark.{Mark}
 use Rattle.store_core.specs.declared.mark.Mark.TheVariants.{Proved, Fails, Budget, Cancelled}
-use Rattle.report.specs.declared.what.What.{What}
-use Rattle.report.specs.declared.what.What.TheVariants.{Draws, DrawsNone, Imports, Publishes, Settles, SettlesHad, Cancels, CancelsNot, GivesUp, GoesOn, GivesUpHad}
 
 -- what is read next, behind what was read
 infixl 10 ◌>>=◌

@@ -1,5 +1,5 @@
 -- The text of a report as one form behind another.
-use Rattle.std.specs.Prelude.{◌≡◌, ℕ, ◌+◌, ◌==◌, ◌&&◌, ⊤, Bool, true, false, not, List, [], ◌++◌, length, codes, bytes_eq, Option, Some, None, Result, Ok, Err}
+use Rattle.std.specs.Prelude.{◌≡◌, ℕ, ◌+◌, ◌==◌, ◌&&◌, ⊤, Bool, true, false, not, List, [], ◌++◌, length, codes, bytes_eq, Option, Some, Result, Ok, Err}
 use Rattle.std.specs.List.{list_all}
 use Rattle.ja_base.specs.declared.memory.OrMemory.{OrMemory}
 use Rattle.ja_base.specs.declared.memory.OrMemory.TheVariants.{Refused, Memory}
@@ -11,7 +11,7 @@ use Rattle.report.specs.declared.line.BadLine.{BadLine}
 use Rattle.report.specs.declared.parts.PropLine.{PropLine}
 use Rattle.report.specs.declared.parts.PropStim.{PropStim}
 use Rattle.report.specs.declared.parts.Sizes.{Sizes}
-use Rattle.report.specs.Findings.{Findings, marks_of}
+use Rattle.report.specs.Findings.{Findings}
 use Rattle.report.specs.Reports.{IsReport, IsSmall, IsReportText, IsBadLine, line_count, journal_text, line_of, report_text}
 use Rattle.report.specs.Forms.{Form, then}
 use Rattle.report.specs.Sections.{words_form, sizes_form, props_form, clauses_form, stimuli_form, joined_form, set_form, IsEntryCount}

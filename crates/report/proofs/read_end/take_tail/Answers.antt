@@ -1,7 +1,7 @@
-use Rattle.std.proofs.Common.{◌<◌, ◌^◌, List, ℕ, Option, length, arith, subst}
+use Rattle.std.proofs.Common.{◌<◌, ◌^◌, length, arith, subst}
 use Rattle.std.specs.Prelude.{codes}
 use Rattle.std.proofs.lemmas.Result.{err_from_is_err_and}
-use Rattle.report.specs.Forms.{Fails, Takes}
+use Rattle.report.specs.Forms.{Fails}
 use Rattle.report.specs.Sections.{words_form, journal_form}
 use Rattle.report.specs.JournalLines.{entries_form}
 use Rattle.report.specs.Whole.{tail_form}

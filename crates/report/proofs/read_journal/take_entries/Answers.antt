@@ -1,4 +1,4 @@
-use Rattle.std.proofs.Common.{◌-◌, ◌<◌, ◌^◌, ◌∷◌, [], ◌++◌, List, length, arith, ap, subst, ◌∙◌}
+use Rattle.std.proofs.Common.{◌-◌, ◌<◌, ◌^◌, ◌∷◌, [], ◌++◌, length, arith, ap, subst, ◌∙◌}
 use Rattle.std.proofs.lemmas.Result.{err_from_is_err_and}
 use Rattle.store_core.specs.declared.journal.Entry.{Entry}
 use Rattle.report.specs.Forms.{Fails, Takes}

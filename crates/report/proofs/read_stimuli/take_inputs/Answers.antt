@@ -1,7 +1,7 @@
 use Rattle.std.proofs.lemmas.Result.{err_from_is_err_and}
 use Rattle.report.specs.Sections.{row_form, next_row_form, inputs_form}
 use Rattle.report.proofs.FormLemmas.{fails}
-use Rattle.report.proofs.StimulusLemmas.{inputs_stop_first, inputs_stop, rows_begin, rows_more, rows_done, line_shorter}
+use Rattle.report.proofs.StimulusLemmas.{inputs_stop_first, inputs_stop}
 use Rattle.report.proofs.read_stimuli.take_inputs.Goals as goal
 
 pub returns-in_err-first : goal.returns-in_err-first

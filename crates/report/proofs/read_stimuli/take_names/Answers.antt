@@ -3,7 +3,7 @@ use Rattle.std.proofs.lemmas.Result.{err_from_is_err_and}
 use Rattle.report.specs.Forms.{then}
 use Rattle.report.specs.Sections.{words_form, named_form, names_form}
 use Rattle.report.proofs.FormLemmas.{fails, stops_first, stops_behind}
-use Rattle.report.proofs.StimulusLemmas.{stimulus_word, property_letter, head_sound, tail_sound, letter_sound, ones_sound}
+use Rattle.report.proofs.StimulusLemmas.{head_sound, tail_sound, letter_sound, ones_sound}
 use Rattle.report.proofs.read_stimuli.take_names.Goals as goal
 
 pub returns-in_err-rest : goal.returns-in_err-rest

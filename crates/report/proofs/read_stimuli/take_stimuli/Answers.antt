@@ -1,4 +1,4 @@
-use Rattle.std.proofs.Common.{◌<◌, ◌^◌, length, arith, subst, sym}
+use Rattle.std.proofs.Common.{◌<◌, ◌^◌, length, arith, subst}
 use Rattle.std.proofs.lemmas.Result.{err_from_is_err_and}
 use Rattle.report.specs.Findings.{marks_of}
 use Rattle.report.specs.Forms.{Fails, Takes}
