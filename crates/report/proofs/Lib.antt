@@ -1,0 +1,14 @@
+pub mod FormLemmas
+pub mod TimesLemmas
+pub mod WriteLemmas
+pub mod TokenLemmas
+pub mod DecodeLemmas
+pub mod NumbersLemmas
+pub mod SectionLemmas
+pub mod StimulusLemmas
+pub mod WhatLemmas
+pub mod JournalLemmas
+pub mod EndLemmas
+pub mod WholeLemmas
+pub mod ShownLemmas
+pub mod FinalLemmas
