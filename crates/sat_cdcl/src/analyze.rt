@@ -241,8 +241,10 @@ impl Walk {
         requires order { db.now.watched.trail.vars ≤ order.old }
         ensures order { order.new ≡ order.old }
         ensures lower { OnOk result ((l : ℕ)
-            → IsLowering db.now.watched.trail.vars (list_of db.now) (places_of db.now) l (at + 1) self.old
-            → IsLowering db.now.watched.trail.vars (list_of db.now) (places_of db.now) l at self.new) }
+            → IsLowering db.now.watched.trail.vars (list_of db.now)
+            (places_of db.now) l (at + 1) self.old
+            → IsLowering db.now.watched.trail.vars (list_of db.now)
+            (places_of db.now) l at self.new) }
     {
         let place = db.place(at);
         if self.derivation.skips(place.lit) {

@@ -57,7 +57,8 @@ fn conclude(
         → IsWalked db.now.watched.trail.vars trail
         → IsDerived db.now.watched.trail.vars (list_of db.now) trail from derivation
         → refusal db.now.watched.trail.vars (list_of db.now) line.clause line.hints ≡ None) }
-    ensures kept { IfOk result (λ line. (under : List ℕ) → DecidesUnder under (places_of db.now) from
+    ensures kept { IfOk result (λ line. (under : List ℕ)
+        → DecidesUnder under (places_of db.now) from
         → AreNegatedIn under derivation.lits → AreNegatedIn under line.clause) }
 {
     for at in (0..from).rev() {

@@ -1,3 +1,4 @@
 pub mod Stores
 pub mod Slots
 pub mod Steps
+pub mod Fronts

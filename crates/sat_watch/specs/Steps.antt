@@ -8,8 +8,6 @@ use Rattle.sat_plain.specs.Trails.{Assigned, lits_of}
 use Rattle.sat_plain.specs.declared.place.Place.{Place}
 use Rattle.sat_watch.specs.declared.step.Step.{Step}
 use Rattle.sat_watch.specs.declared.step.Step.TheVariants.{Quiet, Conflict}
-use Rattle.sat_watch.specs.declared.propagate.Progress.{Progress}
-use Rattle.sat_watch.specs.declared.propagate.Progress.TheVariants as progress
 use Rattle.sat_watch.specs.Stores.{Watched, IsThere}
 
 -- the clause is not false, and forces no literal that has no value
@@ -43,9 +41,3 @@ abbrev pub IsVisited : Assigned → Watched → ℕ → Found → Type 0
 IsVisited before after n False = IsConflict after n
 IsVisited before after n (Forces l) = length before.places < length after.trail.places
 IsVisited before after n Other = after.trail ≡ before
-
--- a clause is false, or some literal became true, or all is quiet
-abbrev pub IsPassed : Assigned → Watched → Progress → Type 0
-IsPassed before after (progress.Conflict n) = IsConflict after n
-IsPassed before after progress.Moved = length before.places < length after.trail.places
-IsPassed before after progress.Quiet = IsQuiet after

@@ -1,95 +1,150 @@
 //! Unit propagation to its end.
 
-ghost use Rattle.std.specs.Prelude.{◌≡◌, ℕ, ◌<◌, List, All, length};
+ghost use Rattle.std.specs.Prelude.{◌≡◌, ◌<◌, ◌+◌, ◌^◌, false, All, length, IfSome, IfNone};
 ghost use Rattle.ja_base.specs.Clauses.{IsBelow};
-ghost use Rattle.ja_base.specs.Trails.{open_lits};
-ghost use Rattle.refute_check.specs.Lines.{found_of};
-ghost use Rattle.sat_plain.specs.Trails.{IsAssigned};
-ghost use Rattle.sat_watch.specs.Stores.{IsHeld, IsThere, over};
-ghost use Rattle.sat_watch.specs.Steps.{IsForcedOn, IsVisited, IsPassed, IsStep};
+ghost use Rattle.sat_plain.specs.Trails.{IsAssigned, lits_of};
+ghost use Rattle.sat_watch.specs.Stores.{IsHeld, over};
+ghost use Rattle.sat_watch.specs.Steps.{IsForcedOn, IsStep, IsConflict};
+ghost use Rattle.sat_watch.specs.Fronts.{IsFront, IsListed, IsReady, IsTended};
 
+use crate::front::Front;
+use crate::occurs::Occurs;
 use crate::step::Step;
 use crate::store::Store;
-use ja_base::Lit;
-use refute_check::{Found, scan};
+use crate::sweep::{sweep, sweep_all};
 use sat_plain::Trail;
 
-/// What a pass leaves.
-#[derive(Clone, Copy, Debug)]
-pub(crate) enum Progress {
-    /// The clause of this slot is false.
-    Conflict(u32),
-    /// Some literal became true.
-    Moved,
-    /// There was nothing to do.
-    Quiet,
-}
-
-/// Makes the literal true that the clause of this slot forces, if it is there and forces one.
-fn visit(trail: &mut Trail, store: &Store, at: u32) -> Found
-    requires at { at < length store.now.clauses }
+/// Looks at all clauses.
+fn look_at_all(trail: &mut Trail, store: &Store, front: &mut Front) -> Option<u32>
     requires below { All (IsBelow trail.old.vars) store.now.clauses }
     requires held { IsHeld (over trail.old store.now) }
-    ensures value { (clause : List ℕ) → IsThere store.now at clause
-        → result ≡ found_of trail.old.values (open_lits trail.old.values clause) }
+    requires front { IsFront trail.old.vars store.now (lits_of trail.old.places) front.old }
     ensures vars { trail.new.vars ≡ trail.old.vars }
-    ensures step { IsVisited trail.old (over trail.new store.now) at result }
     ensures grown { IsForcedOn trail.old.places trail.new.places }
     ensures held { IsHeld (over trail.new store.now) }
     ensures is { IsAssigned trail.new }
+    ensures conflict { IfSome result (IsConflict (over trail.new store.now)) }
+    ensures front { IsFront trail.old.vars store.now (lits_of trail.new.places) front.new }
+    ensures ready { IfNone result (IsReady front.new) }
 {
-    let values = trail.values();
-    if !store.is_live(at) {
-        return Found::Other;
+    let head = trail.len();
+    if let Some(at) = sweep_all(trail, store) {
+        return Some(at);
     }
-    match scan(values, store.clause(at).lits()) {
-        Found::Forces(lit) => {
-            trail.push(Lit(lit), Some(at));
-            Found::Forces(lit)
-        }
-        Found::False => Found::False,
-        Found::Other => Found::Other,
-    }
+    front.head = head;
+    front.seen = front.log.len();
+    front.dirty = false;
+    None
 }
 
-/// Goes once over all clauses.
-fn pass(trail: &mut Trail, store: &Store) -> Progress
+/// Looks at the clauses that came.
+fn look_at_new(trail: &mut Trail, store: &Store, front: &mut Front) -> Option<u32>
+    requires clean { front.old.dirty ≡ false }
     requires below { All (IsBelow trail.old.vars) store.now.clauses }
     requires held { IsHeld (over trail.old store.now) }
+    requires front { IsFront trail.old.vars store.now (lits_of trail.old.places) front.old }
     ensures vars { trail.new.vars ≡ trail.old.vars }
-    ensures step { IsPassed trail.old (over trail.new store.now) result }
     ensures grown { IsForcedOn trail.old.places trail.new.places }
     ensures held { IsHeld (over trail.new store.now) }
     ensures is { IsAssigned trail.new }
+    ensures conflict { IfSome result (IsConflict (over trail.new store.now)) }
+    ensures front { IsFront trail.old.vars store.now (lits_of trail.new.places) front.new }
+    ensures ready { IfNone result (IsReady front.new) }
 {
-    let before = trail.len();
-    for at in 0..store.len() {
-        if let Found::False = visit(trail, store, at) {
-            return Progress::Conflict(at);
-        }
+    if let Some(at) = sweep(trail, store, front.unseen()) {
+        return Some(at);
     }
-    if trail.len() > before {
-        Progress::Moved
-    } else {
-        Progress::Quiet
-    }
+    front.seen = front.log.len();
+    None
 }
 
-/// Passes until one finds nothing to do, or a clause that is false.
-pub(crate) fn propagate(trail: &mut Trail, store: &Store) -> Step
+/// Looks at the clauses in which the literal of the next place is false.
+fn look_on(trail: &mut Trail, store: &Store, occurs: &Occurs, front: &mut Front) -> Option<u32>
+    requires ready { IsReady front.old }
+    requires head { front.old.head < length trail.old.places }
+    requires small { front.old.head + 1 < 2 ^ 32 }
     requires below { All (IsBelow trail.old.vars) store.now.clauses }
     requires held { IsHeld (over trail.old store.now) }
+    requires listed { IsListed trail.old.vars store.now occurs.now }
+    requires front { IsFront trail.old.vars store.now (lits_of trail.old.places) front.old }
     ensures vars { trail.new.vars ≡ trail.old.vars }
+    ensures grown { IsForcedOn trail.old.places trail.new.places }
+    ensures held { IsHeld (over trail.new store.now) }
+    ensures is { IsAssigned trail.new }
+    ensures conflict { IfSome result (IsConflict (over trail.new store.now)) }
+    ensures front { IsFront trail.old.vars store.now (lits_of trail.new.places) front.new }
+    ensures next { IfNone result (IsReady front.new × (front.new.head ≡ front.old.head + 1)) }
+{
+    let lit = trail.place(front.head).lit;
+    if let Some(at) = sweep(trail, store, occurs.of(lit.not())) {
+        return Some(at);
+    }
+    front.head += 1;
+    None
+}
+
+/// Goes on until nothing is left to look at, or a clause is false.
+fn look_to_the_end(trail: &mut Trail, store: &Store, occurs: &Occurs, front: &mut Front) -> Step
+    requires ready { IsReady front.old }
+    requires below { All (IsBelow trail.old.vars) store.now.clauses }
+    requires held { IsHeld (over trail.old store.now) }
+    requires listed { IsListed trail.old.vars store.now occurs.now }
+    requires front { IsFront trail.old.vars store.now (lits_of trail.old.places) front.old }
+    ensures vars { trail.new.vars ≡ trail.old.vars }
+    ensures grown { IsForcedOn trail.old.places trail.new.places }
+    ensures held { IsHeld (over trail.new store.now) }
+    ensures is { IsAssigned trail.new }
     ensures step { IsStep (over trail.new store.now) result }
+    ensures front { IsFront trail.old.vars store.now (lits_of trail.new.places) front.new }
+{
+    while front.head < trail.len() {
+        if let Some(at) = look_on(trail, store, occurs, front) {
+            return Step::Conflict(at);
+        }
+    }
+    front.settle(trail.len());
+    Step::Quiet
+}
+
+/// Propagates until all is quiet, or a clause is false.
+pub(crate) fn propagate(
+    trail: &mut Trail,
+    store: &Store,
+    occurs: &Occurs,
+    front: &mut Front,
+) -> Step
+    requires below { All (IsBelow trail.old.vars) store.now.clauses }
+    requires held { IsHeld (over trail.old store.now) }
+    requires tended { IsTended trail.old.vars store.now (lits_of trail.old.places) occurs.now front.old }
+    ensures vars { trail.new.vars ≡ trail.old.vars }
     ensures grown { IsForcedOn trail.old.places trail.new.places }
     ensures held { IsHeld (over trail.new store.now) }
     ensures is { IsAssigned trail.new }
+    ensures step { IsStep (over trail.new store.now) result }
+    ensures tended { IsTended trail.new.vars store.now (lits_of trail.new.places) occurs.now front.new }
 {
-    loop {
-        match pass(trail, store) {
-            Progress::Moved => {}
-            Progress::Quiet => return Step::Quiet,
-            Progress::Conflict(at) => return Step::Conflict(at),
-        }
+    if let Some(at) = look(trail, store, front) {
+        return Step::Conflict(at);
+    }
+    look_to_the_end(trail, store, occurs, front)
+}
+
+/// Looks at the clauses that were not looked at since the last mark.
+fn look(trail: &mut Trail, store: &Store, front: &mut Front) -> Option<u32>
+    requires below { All (IsBelow trail.old.vars) store.now.clauses }
+    requires held { IsHeld (over trail.old store.now) }
+    requires front { IsFront trail.old.vars store.now (lits_of trail.old.places) front.old }
+    ensures vars { trail.new.vars ≡ trail.old.vars }
+    ensures grown { IsForcedOn trail.old.places trail.new.places }
+    ensures held { IsHeld (over trail.new store.now) }
+    ensures is { IsAssigned trail.new }
+    ensures conflict { IfSome result (IsConflict (over trail.new store.now)) }
+    ensures front { IsFront trail.old.vars store.now (lits_of trail.new.places) front.new }
+    ensures ready { IfNone result (IsReady front.new) }
+{
+    if front.dirty {
+        look_at_all(trail, store, front)
+    } else {
+        look_at_new(trail, store, front)
     }
 }

@@ -75,9 +75,10 @@ impl Store {
     }
 
     /// A slot that is free, or the one behind the last.
-    fn free_slot(&self) -> u32
+    pub(crate) fn free_slot(&self) -> u32
         ensures within { result ≤ length self.now.clauses }
         ensures free { bit self.now.live result ≡ false }
+        ensures wide { length self.now.live ≡ length self.now.clauses }
     {
         for at in self.lowest..self.len() {
             if !self.live[at as usize] {
@@ -124,18 +125,19 @@ impl Store {
         Ok(())
     }
 
-    /// The clause takes a free slot, which is told.
-    pub(crate) fn put(&mut self, clause: Clause, tag: Tag) -> Result<u32, Memory>
-        ensures ok { IfOk result (IsPut self.old clause tag self.new) }
+    /// The clause takes this slot, which is free.
+    pub(crate) fn put(&mut self, at: u32, clause: Clause, tag: Tag) -> Result<(), Memory>
+        requires within { at ≤ length self.old.clauses }
+        requires free { bit self.old.live at ≡ false }
+        ensures ok { OnOk result (IsPut self.old clause tag self.new at) }
         ensures err { OnErr result (self.new ≡ self.old) }
     {
-        let at = self.free_slot();
         if at < self.len() {
             self.reuse(at, clause, tag);
-            return Ok(at);
+            return Ok(());
         }
         self.append(clause, tag)?;
-        Ok(at)
+        Ok(())
     }
 
     /// The clause of this slot is let go.

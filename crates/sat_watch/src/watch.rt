@@ -8,6 +8,8 @@ ghost use Rattle.sat_plain.specs.Trails.{lits_of, IsAssigned};
 ghost use Rattle.sat_watch.specs.Stores.{IsHeld, IsIdle, IsPut, value_of};
 ghost use Rattle.sat_watch.specs.Steps.{IsForcedOn, IsStep};
 
+use crate::front::Front;
+use crate::occurs::{Occurs, list_in, unlist};
 use crate::propagate::propagate;
 use crate::step::Step;
 use crate::store::Store;
@@ -22,18 +24,23 @@ use std::marker::Model;
 pub struct Watch {
     trail: Trail,
     store: Store,
+    occurs: Occurs,
+    front: Front,
 }
 
 impl Model for Watch {
     ghost use Rattle.std.specs.Prelude.{All};
     ghost use Rattle.ja_base.specs.Clauses.{IsBelow};
+    ghost use Rattle.sat_plain.specs.Trails.{lits_of};
     ghost use Rattle.sat_watch.specs.Stores.{Watched, IsHeld, over};
+    ghost use Rattle.sat_watch.specs.Fronts.{IsTended};
 
     ghost Value = { Watched };
 
     ghost view = { λ a. over a.trail a.store };
 
-    ghost invariant = { λ a. All (IsBelow a.trail.vars) a.store.clauses × IsHeld (over a.trail a.store) };
+    ghost invariant = { λ a. All (IsBelow a.trail.vars) a.store.clauses × IsHeld (over a.trail a.store)
+        × IsTended a.trail.vars a.store (lits_of a.trail.places) a.occurs a.front };
 }
 
 impl Watch {
@@ -46,9 +53,13 @@ impl Watch {
             ≡ record { clauses = []; live = []; tags = [] }) }
     {
         let trail = Trail::new(alloc, vars)?;
+        let occurs = Occurs::new(alloc, vars)?;
+        let front = Front::new(alloc, vars)?;
         Ok(Watch {
             trail,
             store: Store::new(alloc),
+            occurs,
+            front,
         })
     }
 
@@ -61,6 +72,9 @@ impl Watch {
         ensures store { self.new.store ≡ self.old.store }
         ensures err { OnErr result (self.new ≡ self.old) }
     {
+        self.front.fresh()?;
+        self.occurs.fresh()?;
+        self.occurs.fresh()?;
         let var = self.trail.fresh()?;
         Ok(var)
     }
@@ -72,7 +86,10 @@ impl Watch {
         ensures trail { self.new.trail ≡ self.old.trail }
         ensures err { OnErr result (self.new ≡ self.old) }
     {
-        let at = self.store.put(clause, tag)?;
+        let at = self.store.free_slot();
+        list_in(&mut self.occurs, clause.lits(), at)?;
+        self.front.note(at)?;
+        self.store.put(at, clause, tag)?;
         Ok(at)
     }
 
@@ -84,6 +101,7 @@ impl Watch {
         ensures store { self.new.store
             ≡ record self.old.store { live = slice_set self.old.store.live at false } }
     {
+        unlist(&mut self.occurs, self.store.clause(at).lits(), at);
         self.store.forget(at);
     }
 
@@ -148,6 +166,7 @@ impl Watch {
         ensures is { IsAssigned self.new.trail }
         ensures store { self.new.store ≡ self.old.store }
     {
+        self.front.retreat(to, self.trail.len());
         self.trail.undo(to);
     }
 
@@ -163,7 +182,7 @@ impl Watch {
         ensures step { IsStep self.new result }
     {
         self.trail.push(lit, None);
-        propagate(&mut self.trail, &self.store)
+        propagate(&mut self.trail, &self.store, &self.occurs, &mut self.front)
     }
 
     /// The literal that the clause of this slot forces becomes true, and all that follows from it.
@@ -181,7 +200,7 @@ impl Watch {
         ensures step { IsStep self.new result }
     {
         self.trail.push(lit, Some(at));
-        propagate(&mut self.trail, &self.store)
+        propagate(&mut self.trail, &self.store, &self.occurs, &mut self.front)
     }
 
     /// All that follows from what is true becomes true.
@@ -192,6 +211,6 @@ impl Watch {
         ensures is { IsAssigned self.new.trail }
         ensures step { IsStep self.new result }
     {
-        propagate(&mut self.trail, &self.store)
+        propagate(&mut self.trail, &self.store, &self.occurs, &mut self.front)
     }
 }
