@@ -106,21 +106,21 @@ def ring(latches):
 
 
 def report(clauses, props, seed=5):
-    """The report of a design of 20,000 latches: every fourth property fails, and the journal is shown."""
+    """The report of a design of 20,000 latches: every fortieth property fails, and the journal is shown."""
     chance = random.Random(seed)
     inputs, latches = 200, 20_000
     rows = lambda width: "".join(chance.choice("01") for _ in range(width)) + "\n"
     lines = [f"jasign 1\ndesign {inputs + latches} {inputs} {latches} 0 {props} 0\n"]
-    marks = ["fails" if prop % 4 == 3 else "proved" for prop in range(props)]
+    marks = ["fails" if prop % 40 == 39 else "proved" for prop in range(props)]
     lines += [f"b{prop} hold {mark}\n" for prop, mark in enumerate(marks)]
     lines.append(f"clauses {clauses}\n")
     for _ in range(clauses):
         variables = chance.sample(range(inputs + 1, inputs + latches + 1), chance.randrange(2, 9))
         lines.append(" ".join(str(2 * variable + chance.randrange(2)) for variable in sorted(variables)) + "\n")
-    for prop in range(3, props, 4):
+    for prop in range(39, props, 40):
         lines.append(f"stimulus b{prop}\n1\nb{prop}\n" + rows(latches))
         lines += [rows(inputs) for _ in range(20)] + [".\n"]
-    lines.append("joined no\nset" + "".join(f" b{prop}" for prop in range(3, props, 4)) + f"\njournal {2 * props}\n")
+    lines.append("joined no\nset" + "".join(f" b{prop}" for prop in range(39, props, 40)) + f"\njournal {2 * props}\n")
     proofs, proved = marks.count("proved"), 0
     for prop, mark in enumerate(marks):
         lines.append(f"0 draw b{prop} at {clauses * proved // proofs}\n")
@@ -153,7 +153,7 @@ def main(folder):
     (folder / "clauses").write_text(clauses)
     (folder / "log").write_text(log)
     (folder / "nothing").write_text("")
-    (folder / "report").write_text(report(300_000, 2_000))
+    (folder / "report").write_text(report(100_000, 20_000))
     (folder / "binary.aag").write_bytes(binary(50_000, 50_000, 400_000))
     (folder / "binary.stim").write_text(stimulus(50_000, 50_000, 1))
 
