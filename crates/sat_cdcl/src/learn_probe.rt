@@ -1,25 +1,11 @@
 //! A question without a log: it is asked like a query, and the lines are let go.
 
-ghost use Rattle.std.specs.Prelude.{◌≡◌, ℕ, ◌<◌, length};
-ghost use Rattle.ja_base.specs.Literals.{bit};
-
 use crate::learn_sat::LearnSat;
 use ja_base::{Clause, Lit, Meter, Row, Var};
 use ja_outside::Flag;
 use refute_check::Refuted;
-use sat_plain::{Probe, Probed, Sat, SatAnswer};
+use sat_plain::{Probe, Probed, Sat, SatAnswer, put_front};
 use std::alloc::Global;
-
-/// The bits of the first row take the places of those of the second, as far as both reach.
-fn write_front(from: &Row, to: &mut Row)
-    ensures width { length to.new ≡ length to.old }
-    ensures front { (u : ℕ) → u < length to.new → u < length from.now
-        → bit to.new u ≡ bit from.now u }
-{
-    for at in 0..to.len().min(from.len()) {
-        to.set(at, from.get(at));
-    }
-}
 
 impl Probe for LearnSat {
     /// It decides all variables, whichever are given.
@@ -35,7 +21,7 @@ impl Probe for LearnSat {
     ) -> Probed {
         match self.solve(alloc, under, extra, meter, flag) {
             SatAnswer::Sat(found) => {
-                write_front(&found, row);
+                put_front(&found, row);
                 Probed::Open
             }
             SatAnswer::Unsat(refuted) => {

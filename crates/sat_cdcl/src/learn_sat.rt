@@ -8,7 +8,6 @@ ghost use Rattle.sat_plain.specs.Ticks.{TicksAtMost, SpendsAtLeast, IsLater, IsT
 ghost use Rattle.sat_plain.specs.Outcomes.{IsFound, IsFoundTicked};
 ghost use Rattle.sat_cdcl.specs.Files.{list_of, places_of, IsKept, AreForcedAll};
 
-use crate::budget::{Payment, pay};
 use crate::database::Database;
 use crate::decide::Order;
 use crate::query::Query;
@@ -16,7 +15,7 @@ use crate::search::search;
 use ja_base::{Clause, Lit, Memory, Meter, Var};
 use ja_outside::Flag;
 use refute_check::Lines;
-use sat_plain::{Sat, SatAnswer};
+use sat_plain::{Payment, Sat, SatAnswer, pay};
 use std::alloc::Global;
 use std::marker::Model;
 

@@ -6,7 +6,6 @@ mod advance;
 mod analyze;
 mod assume;
 mod backtrack;
-mod budget;
 mod conclude;
 mod database;
 mod decide;

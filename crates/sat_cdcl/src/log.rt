@@ -7,8 +7,9 @@ ghost use Rattle.sat_watch.specs.Stores.{IsThere};
 ghost use Rattle.sat_cdcl.specs.Files.{list_of, IsKept};
 
 use crate::database::Database;
-use ja_base::{Lit, Lits, Memory};
+use ja_base::{Lits, Memory};
 use refute_check::{Line, Lines};
+use sat_plain::negations;
 use std::alloc::Global;
 
 /// The line joins the log, and its clause takes the next number and a slot, which is told.
@@ -29,17 +30,6 @@ pub(crate) fn log(
     lines.push(line)?;
     let slot = db.put(clause)?;
     Ok(slot)
-}
-
-/// The negations of these literals.
-fn negations(alloc: Global, lits: &[Lit]) -> Result<Lits, Memory>
-    ensures { IfOk result (λ core. core ≡ map negated lits.now) }
-{
-    let mut core = Lits::new(alloc);
-    for lit in lits {
-        core.push(lit.not())?;
-    }
-    Ok(core)
 }
 
 /// The line joins the log as the last one, and the literals that it refutes are told.

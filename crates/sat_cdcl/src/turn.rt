@@ -12,7 +12,6 @@ ghost use Rattle.sat_cdcl.specs.Turns.{IsUnderWay, IsRefuting, IsFalsified, IsTu
 
 use crate::advance::{Move, advance};
 use crate::backtrack::{Reaction, react};
-use crate::budget::{Payment, pay};
 use crate::conclude::refute_place;
 use crate::database::Database;
 use crate::decide::Order;
@@ -20,6 +19,7 @@ use crate::log::close;
 use crate::query::Query;
 use ja_base::{Lit, Lits, Memory, Meter, Row};
 use ja_outside::Flag;
+use sat_plain::{Payment, pay};
 use sat_watch::Step;
 use std::alloc::Global;
 

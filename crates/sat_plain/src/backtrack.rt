@@ -30,7 +30,7 @@ fn log(alloc: Global, clauses: &mut Numbered, lines: &mut Lines, line: Line) -> 
 }
 
 /// The negations of these literals.
-fn negations(alloc: Global, lits: &[Lit]) -> Result<Lits, Memory>
+pub fn negations(alloc: Global, lits: &[Lit]) -> Result<Lits, Memory>
     ensures { IfOk result (λ core. core ≡ map negated lits.now) }
 {
     let mut core = Lits::new(alloc);

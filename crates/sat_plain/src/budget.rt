@@ -10,7 +10,7 @@ use ja_outside::Flag;
 
 /// Whether the search may go on.
 #[derive(Clone, Copy, Debug)]
-pub(crate) enum Payment {
+pub enum Payment {
     Paid,
     /// The meter's limit is reached.
     Spent,
@@ -19,7 +19,7 @@ pub(crate) enum Payment {
 }
 
 /// Ticks first, and polls the flag only behind a unit that was spent.
-pub(crate) fn pay<F: Flag>(meter: &mut Meter, flag: &mut F) -> Payment
+pub fn pay<F: Flag>(meter: &mut Meter, flag: &mut F) -> Payment
     ensures paid { IsPaid meter.old meter.new result }
     ensures later { IsLater meter.old meter.new }
     ensures bounded { TicksAtMost meter.old meter.new 1 }

@@ -23,9 +23,12 @@ mod trail;
 mod turn;
 
 pub use answer::SatAnswer;
+pub use backtrack::negations;
+pub use budget::{Payment, pay};
 pub use derivation::Derivation;
 pub use place::Place;
 pub use plain::PlainSat;
+pub use plain_probe::put_front;
 pub use probe::{Probe, Probed};
 pub use sat::Sat;
 pub use trail::Trail;

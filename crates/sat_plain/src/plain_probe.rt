@@ -18,7 +18,7 @@ use refute_check::Refuted;
 use std::alloc::Global;
 
 /// Writes the bits of one row over those of another, as far as both reach.
-fn put_front(from: &Row, to: &mut Row)
+pub fn put_front(from: &Row, to: &mut Row)
     ensures width { length to.new ≡ length to.old }
     ensures front { (u : ℕ) → u < length to.new → u < length from.now
         → bit to.new u ≡ bit from.now u }
