@@ -1,0 +1,4 @@
+pub mod Openings
+pub mod Sections
+pub mod Joint
+pub mod SignOff
