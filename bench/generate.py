@@ -147,6 +147,8 @@ def main(folder):
     }
     for name, text in texts.items():
         (folder / name).write_text(text)
+    for latches in (10, 20):
+        (folder / f"ring_{latches}.aag").write_text(ring(latches)[0])
     for name, text in zip(["ring.aag", "ring.clauses", "ring.proofs"], ring(3_000)):
         (folder / name).write_text(text)
     clauses, log = refutations(100_000, 1_000_000)

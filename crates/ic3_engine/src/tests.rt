@@ -258,7 +258,7 @@ fn goes_on_behind_a_halt(rt: HostRuntime) -> Result<(), Fail> {
     Ok(())
 }
 
-// A list that covers the property is found to do so by one question, whose only conflict is the last.
+// A list that covers the property is found to do so by one question: a unit for it, and one for the conflict that ends it.
 #[test]
 fn ends_where_the_list_covers(rt: HostRuntime) -> Result<(), Fail> {
     let alloc = rt.alloc();
@@ -277,16 +277,18 @@ fn ends_where_the_list_covers(rt: HostRuntime) -> Result<(), Fail> {
         let Ok(Found::Proved(proved)) = found else {
             return Err("not proved".into());
         };
-        let mut units = Meter::new(None);
-        let again = mark_alone::<PlainSat, NoFlag>(
-            alloc,
-            &coded,
-            0,
-            &proved.list,
-            &mut units,
-            &mut NoFlag,
-        )?;
-        assert_eq!(rt; (again, units.units()), (Proved, 2));
+        for (limit, expected) in [(1, Mark::Halted(Halt::Spent)), (2, Proved)] {
+            let mut meter = Meter::new(Some(limit));
+            let again = mark_alone::<PlainSat, NoFlag>(
+                alloc,
+                &coded,
+                0,
+                &proved.list,
+                &mut meter,
+                &mut NoFlag,
+            )?;
+            assert_eq!(rt; again, expected, "{limit}");
+        }
     }
     Ok(())
 }
