@@ -1,4 +1,4 @@
-//! Questions over a task of three latches, by the plain solver and by one whose first answers pass no test, against a count of its
+//! Questions over a task of four latches, by the plain solver and by one whose first answers pass no test, against a count of its
 //! steps. The levels go to 2; what is known is one clause.
 
 ghost use Rattle.std.specs.Prelude.{◌≡◌, ◌≤◌, [], false, nat_lt, IfOk, OnOk, length};
@@ -214,7 +214,7 @@ fn asked<S: Probe + Drop, F: Flag>(
     rt: &impl Abort,
     alloc: Global,
     level: u32,
-    signs: [u32; 3],
+    signs: [u32; 4],
     meter: &mut Meter,
     flag: &mut F,
 ) -> Result<bool, Halt>
@@ -268,19 +268,19 @@ fn asked_bad<S: Probe + Drop>(
     )
 }
 
-fn some_leads_out(level: u32, signs: [u32; 3]) -> bool {
-    (0..16).any(|number| Step::of(number).leads_out(level, signs))
+fn some_leads_out(level: u32, signs: [u32; 4]) -> bool {
+    (0..32).any(|number| Step::of(number).leads_out(level, signs))
 }
 
 fn some_leads_to_bad(level: u32, prop: u32) -> bool {
-    (0..16).any(|number| Step::of(number).leads_to_bad(level, prop))
+    (0..32).any(|number| Step::of(number).leads_to_bad(level, prop))
 }
 
 #[test]
 fn asks_for_each_clause(rt: HostRuntime) -> Result<(), Fail> {
     let alloc = rt.alloc();
     for level in 0..4 {
-        for number in 0..27 {
+        for number in 0..81 {
             let signs = signs_of(number);
             let mut meter = Meter::new(None);
             let plain = asked::<PlainSat, _>(&rt, alloc, level, signs, &mut meter, &mut NoFlag);
@@ -312,7 +312,7 @@ fn asks_for_each_property(rt: HostRuntime) -> Result<(), Fail> {
 #[test]
 fn ends_without_an_answer(rt: HostRuntime) -> Result<(), Fail> {
     let alloc = rt.alloc();
-    let signs = [2, 0, 0];
+    let signs = [2, 0, 0, 0];
     let rows = [
         (Some(0), None, Err(Halt::Spent)),
         (None, Some(0), Err(Halt::Stopped)),

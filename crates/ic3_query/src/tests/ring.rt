@@ -1,4 +1,4 @@
-//! A task of three latches, and by hand which steps it has.
+//! A task of four latches, and by hand which steps it has.
 
 ghost use Rattle.std.specs.Prelude.{◌≡◌, ◌^◌, ◌<◌, IfOk, length};
 ghost use Rattle.aig_model.specs.Refusals.{AreInRange};
@@ -8,8 +8,8 @@ use ja_base::{Clause, Items, Lit, Lits, Memory, OrMemory};
 use std::alloc::Global;
 use std::process::Abort;
 
-/// The latch a takes the bit of b, b that of the gate 10, c the other bit of the gate 10.
-const LATCHES: [Latch; 3] = [
+/// The latch a takes the bit of b, b that of the gate 10, c the other bit of the gate 10, d the bit of c.
+const LATCHES: [Latch; 4] = [
     Latch {
         lit: Lit(4),
         next: Lit(6),
@@ -24,6 +24,11 @@ const LATCHES: [Latch; 3] = [
         lit: Lit(8),
         next: Lit(11),
         reset: Reset::Free,
+    },
+    Latch {
+        lit: Lit(16),
+        next: Lit(8),
+        reset: Reset::One,
     },
 ];
 
@@ -72,7 +77,7 @@ fn parts_of(alloc: Global) -> Result<Parts, Memory>
     ensures { IfOk result AreInRange }
 {
     Ok(Parts {
-        vars: 7,
+        vars: 8,
         inputs: lits_of(alloc, &[Lit(2)])?,
         latches: latches_of(alloc, &LATCHES)?,
         bads: lits_of(alloc, &[Lit(12), Lit(8)])?,
@@ -96,43 +101,49 @@ pub(crate) fn ring_task(rt: &impl Abort, alloc: Global) -> Result<Task, Memory> 
     }
 }
 
-/// The bits of a, b and c, and that of the input.
+/// The bits of a, b, c and d, and that of the input.
 #[derive(Clone, Copy, Debug, PartialEq, Eq)]
 pub(crate) struct Step {
-    pub(crate) now: [bool; 3],
+    pub(crate) now: [bool; 4],
     pub(crate) input: bool,
 }
 
 impl Step {
-    /// The step of a number from 0 to 15.
+    /// The step of a number from 0 to 31.
     pub(crate) fn of(number: u32) -> Step {
         Step {
-            now: [number & 1 != 0, number & 2 != 0, number & 4 != 0],
-            input: number & 8 != 0,
+            now: [
+                number & 1 != 0,
+                number & 2 != 0,
+                number & 4 != 0,
+                number & 8 != 0,
+            ],
+            input: number & 16 != 0,
         }
     }
 
-    pub(crate) fn later(&self) -> [bool; 3] {
-        let [a, b, _] = self.now;
-        [b, a && self.input, !(a && self.input)]
+    pub(crate) fn later(&self) -> [bool; 4] {
+        let [a, b, c, _] = self.now;
+        [b, a && self.input, !(a && self.input), c]
     }
 
     fn is_constrained(&self) -> bool {
-        let [_, _, c] = self.now;
+        let [_, _, c, _] = self.now;
         !(self.input && c)
     }
 
     fn breaks(&self, prop: u32) -> bool {
-        let [_, b, c] = self.now;
+        let [_, b, c, _] = self.now;
         if prop == 0 { b && c } else { c }
     }
 
-    /// That a and b are not both 1 is known; a is 0 at level 1, and where it is 1 at level 2, c is too.
+    /// At level 0 a and b are 0 and d is 1. That a and b are not both 1 is known; a is 0 at level 1, and where it is 1 at level 2,
+    /// c is too.
     fn is_in(&self, level: u32) -> bool {
-        let [a, b, c] = self.now;
+        let [a, b, c, d] = self.now;
         let known = !(a && b);
         match level {
-            0 => known && !a && !b,
+            0 => known && !a && !b && d,
             1 => known && !a,
             2 => known && (!a || c),
             _ => known,
@@ -140,7 +151,7 @@ impl Step {
     }
 
     /// A step from the level that leads out of the clause.
-    pub(crate) fn leads_out(&self, level: u32, signs: [u32; 3]) -> bool {
+    pub(crate) fn leads_out(&self, level: u32, signs: [u32; 4]) -> bool {
         self.is_in(level)
             && holds(signs, self.now)
             && self.is_constrained()
@@ -154,12 +165,12 @@ impl Step {
     }
 }
 
-/// A clause as a sign for each of a, b and c: 1 for the latch, 2 for its negation, 0 where it does not stand there.
-pub(crate) fn signs_of(number: u32) -> [u32; 3] {
-    [number % 3, number / 3 % 3, number / 9 % 3]
+/// A clause as a sign for each of a, b, c and d: 1 for the latch, 2 for its negation, 0 where it does not stand there.
+pub(crate) fn signs_of(number: u32) -> [u32; 4] {
+    [number % 3, number / 3 % 3, number / 9 % 3, number / 27 % 3]
 }
 
-pub(crate) fn holds(signs: [u32; 3], row: [bool; 3]) -> bool {
+pub(crate) fn holds(signs: [u32; 4], row: [bool; 4]) -> bool {
     let mut some = false;
     for (sign, bit) in signs.into_iter().zip(row) {
         if sign == 1 && bit || sign == 2 && !bit {
@@ -169,9 +180,10 @@ pub(crate) fn holds(signs: [u32; 3], row: [bool; 3]) -> bool {
     some
 }
 
-pub(crate) fn clause_of(alloc: Global, signs: [u32; 3]) -> Result<Clause, Memory> {
+pub(crate) fn clause_of(alloc: Global, signs: [u32; 4]) -> Result<Clause, Memory> {
     let mut lits = Lits::new(alloc);
-    for (sign, [plain, negated]) in signs.into_iter().zip([[4, 5], [6, 7], [8, 9]]) {
+    let latches = [[4, 5], [6, 7], [8, 9], [16, 17]];
+    for (sign, [plain, negated]) in signs.into_iter().zip(latches) {
         match sign {
             1 => lits.push(Lit(plain))?,
             2 => lits.push(Lit(negated))?,
