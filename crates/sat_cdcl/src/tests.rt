@@ -317,11 +317,11 @@ fn fresh_one(alloc: Global, solver: &mut KeepSat) -> Result<Lit, Memory> {
 }
 
 // The clauses {2, 4} and {3, 4}, and an extra one that always holds or says that 4 is false: without 4 there is one conflict,
-// and so two units and two polls. A variable that is new between questions is 12, and has its own bit.
+// and so two units and two polls. A solver that learnt nothing yet answers each; a variable that is new is 12, and has its own
+// bit.
 #[test]
 fn answers_questions(rt: HostRuntime) -> Result<(), Fail> {
     let alloc = rt.alloc();
-    let mut solver = keeper_of(alloc, &[0b010100, 0b011000, 0])?;
     let all = 0b000011;
     let rows: [(u64, u64, Option<u64>, Option<u64>, Told); 10] = [
         (0b100000, all, None, None, Told::Core(0b100000)),
@@ -336,12 +336,14 @@ fn answers_questions(rt: HostRuntime) -> Result<(), Fail> {
         (0b100000, all, None, Some(1), Told::Stopped),
     ];
     for (under, extra, limit, after, answer) in rows {
+        let mut solver = keeper_of(alloc, &[0b010100, 0b011000, 0])?;
         assert_eq!(rt;
             question(alloc, &mut solver, under, extra, limit, after)?,
             answer,
             "under {under} with {extra}, {limit:?} and {after:?}"
         );
     }
+    let mut solver = keeper_of(alloc, &[0b010100, 0b011000, 0])?;
     assert_eq!(rt; fresh_one(alloc, &mut solver)?, Lit(24));
     let mut row = Row::zeros(alloc, 13)?;
     let probed = solver.probe(
