@@ -1,6 +1,6 @@
 //! The yardstick of the engine: reads a design, each property of which is expected to hold, and decides its properties one after
 //! another on one engine. Says how many were proved and how many fail, how many clauses are then known, and how many units all of
-//! it took. The learning solver is asked, or with a second word the plain one.
+//! it took. The solver that keeps what it learns is asked, or with a second word the plain one.
 #![tactic(auto)]
 
 mod tally;
@@ -13,7 +13,7 @@ use ja_outside::{Shelf, Sink, Whole, read_whole, write_whole};
 use ja_project::Coded;
 use ja_std::{FileShelf, StdSink};
 use ja_text::Text;
-use sat_cdcl::LearnSat;
+use sat_cdcl::{KeepSat, LearnSat};
 use sat_plain::PlainSat;
 use std::alloc::Global;
 use std::env::{self, Env};
@@ -39,7 +39,7 @@ fn tallied(rt: &(impl Env + AllocGlobal), shelf: &mut impl Shelf) -> Option<Tall
     let coded = coded_of(rt, shelf, words.next()?.as_str())?;
     match words.next() {
         Some(_) => tally_of::<PlainSat, PlainSat>(rt.alloc(), &coded).ok(),
-        None => tally_of::<LearnSat, LearnSat>(rt.alloc(), &coded).ok(),
+        None => tally_of::<KeepSat, LearnSat>(rt.alloc(), &coded).ok(),
     }
 }
 

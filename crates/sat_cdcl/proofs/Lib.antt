@@ -6,3 +6,7 @@ pub mod SearchLemmas
 pub mod RowLemmas
 pub mod LoopLemmas
 pub mod QueryLemmas
+pub mod TaintLemmas
+pub mod QuestionLemmas
+pub mod ProbeLemmas
+pub mod KeeperLemmas

@@ -1,6 +1,7 @@
 -- What is known of decisions: they are assumed literals, or came when all of these were true.
-use Rattle.std.specs.Prelude.{◌≡◌, ℕ, ◌<◌, ◌≤◌, List, length, take, All, Contains, slice_get, Option, Some, None}
+use Rattle.std.specs.Prelude.{◌≡◌, ℕ, ◌<◌, ◌≤◌, Bool, List, length, take, All, Contains, slice_get, Option, Some, None, ⊤}
 use Rattle.ja_base.specs.Literals.{negated}
+use Rattle.ja_base.specs.Trails.{IsFull}
 use Rattle.sat_plain.specs.declared.place.Place.{Place}
 use Rattle.sat_plain.specs.Trails.{Assigned, lits_of}
 use Rattle.sat_watch.specs.Stores.{value_of}
@@ -37,3 +38,8 @@ AreNegatedIn under lits = (m : ℕ) → Contains lits m → Contains under (nega
 abbrev pub IsRetreated : ℕ → Option ℕ → ℕ → Option ℕ → ℕ → Type 0
 IsRetreated to free cursor None cursor' = (cursor' ≡ 0) × ((f : ℕ) → free ≡ Some f → to ≤ f)
 IsRetreated to free cursor (Some f) cursor' = (free ≡ Some f) × (f < to) × (cursor' ≡ cursor)
+
+-- each variable has a value; nothing is said where the variables to be decided are given
+abbrev pub IsDecidedFor : Option (List ℕ) → ℕ → List Bool → Type 0
+IsDecidedFor None vars values = IsFull vars values
+IsDecidedFor (Some among) vars values = ⊤

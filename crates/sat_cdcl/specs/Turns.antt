@@ -1,7 +1,6 @@
 -- What a search keeps from turn to turn, and what a turn leaves.
-use Rattle.std.specs.Prelude.{◌≡◌, ℕ, ◌+◌, ◌≤◌, Some, List, length, slice_get, All, Contains, ⊤}
+use Rattle.std.specs.Prelude.{◌≡◌, ℕ, ◌+◌, ◌≤◌, Option, Some, List, length, slice_get, All, Contains, ⊤}
 use Rattle.ja_base.specs.Literals.{negated}
-use Rattle.ja_base.specs.Trails.{IsFull}
 use Rattle.sat_plain.specs.declared.place.Place.{Place}
 use Rattle.sat_plain.specs.Trails.{lits_of}
 use Rattle.ja_base.specs.declared.meter.Meter.{Meter}
@@ -13,7 +12,7 @@ use Rattle.sat_plain.specs.Outcomes.{SpendsFor}
 use Rattle.sat_watch.specs.declared.step.Step.{Step}
 use Rattle.sat_watch.specs.Steps.{IsStep}
 use Rattle.sat_cdcl.specs.Files.{Filed, list_of, places_of}
-use Rattle.sat_cdcl.specs.Assumptions.{IsAssuming, DecidesUnder}
+use Rattle.sat_cdcl.specs.Assumptions.{IsAssuming, DecidesUnder, IsDecidedFor}
 use Rattle.sat_cdcl.specs.declared.query.Query.{Query}
 use Rattle.sat_cdcl.specs.declared.backtrack.Reaction.{Reaction}
 use Rattle.sat_cdcl.specs.declared.backtrack.Reaction.TheVariants as reaction
@@ -56,12 +55,13 @@ pub record IsFalsified (under : List ℕ) (places : List Place) (p : ℕ) : Type
   pub assumed : Contains under (negated place.lit)
   pub decisions : DecidesUnder under places (length places)
 
--- the search has come further, or all variables have a value and all assumed literals are true, or one of them is false
-abbrev pub IsAdvanced : List ℕ → Filed → Query → Filed → Query → Move → Type 0
-IsAdvanced under before query after query' (moved.Decided step) = IsOnward under before query after query' step
-IsAdvanced under before query after query' moved.Full =
-    (after ≡ before) × IsFull before.watched.trail.vars before.watched.trail.values × All (Contains (lits_of (places_of before))) under
-IsAdvanced under before query after query' (moved.Falsified p) =
+-- the search has come further, or all variables to be decided have a value and all assumed literals are true, or one is false
+abbrev pub IsAdvanced : List ℕ → Option (List ℕ) → Filed → Query → Filed → Query → Move → Type 0
+IsAdvanced under among before query after query' (moved.Decided step) = IsOnward under before query after query' step
+IsAdvanced under among before query after query' moved.Full =
+    (after ≡ before) × IsDecidedFor among before.watched.trail.vars before.watched.trail.values
+    × All (Contains (lits_of (places_of before))) under
+IsAdvanced under among before query after query' (moved.Falsified p) =
     (after ≡ before) × IsFalsified under (places_of before) p
 
 -- the search has come further, or a row meets all, or the literals that are assumed are refuted

@@ -1,6 +1,6 @@
 //! What is done where propagation ended quiet: a decision, if one is left.
 
-ghost use Rattle.std.specs.Prelude.{◌≡◌, ℕ, ◌<◌, All, Contains, Some, slice_get, ◌≤◌};
+ghost use Rattle.std.specs.Prelude.{◌≡◌, ℕ, ◌<◌, All, Contains, Some, option_copied, slice_get, ◌≤◌};
 ghost use Rattle.ja_base.specs.Clauses.{IsBelow};
 ghost use Rattle.ja_base.specs.Literals.{bit, variable};
 ghost use Rattle.sat_plain.specs.Trails.{lits_of, IsAssigned};
@@ -12,7 +12,7 @@ use crate::assume::{Next, next_assumed};
 use crate::database::Database;
 use crate::decide::Order;
 use crate::query::Query;
-use ja_base::Lit;
+use ja_base::{Lit, Var};
 use sat_plain::Trail;
 use sat_watch::Step;
 
@@ -21,7 +21,7 @@ use sat_watch::Step;
 pub(crate) enum Move {
     /// A literal was decided.
     Decided(Step),
-    /// Each variable has a value, and each assumed literal is true.
+    /// Each variable has a value, or each that is given, and each assumed literal is true.
     Full,
     /// The negation of the literal of this place is assumed.
     Falsified(u32),
@@ -42,7 +42,13 @@ fn place_of(trail: &Trail, lit: Lit) -> u32
 }
 
 /// Decides a variable that is not assumed.
-fn decide(db: &mut Database, order: &mut Order, query: &mut Query, under: &[Lit]) -> Move
+fn decide(
+    db: &mut Database,
+    order: &mut Order,
+    query: &mut Query,
+    under: &[Lit],
+    among: Option<&[Var]>,
+) -> Move
     requires order { db.old.watched.trail.vars ≤ order.old }
     requires assumed { All (Contains (lits_of (places_of db.old))) under.now }
     requires under_way { IsUnderWay under.now db.old query.old }
@@ -50,9 +56,10 @@ fn decide(db: &mut Database, order: &mut Order, query: &mut Query, under: &[Lit]
     ensures kept { IsKept db.old db.new }
     ensures lines { query.new.lines ≡ query.old.lines }
     ensures list { list_of db.new ≡ list_of db.old }
-    ensures advanced { IsAdvanced under.now db.old query.old db.new query.new result }
+    ensures advanced { IsAdvanced under.now (option_copied among.entry) db.old query.old
+        db.new query.new result }
 {
-    match order.next(db.trail()) {
+    match order.next(db.trail(), among) {
         Some(lit) => {
             let free = query.free.unwrap_or(db.trail().len());
             query.free = Some(free);
@@ -63,12 +70,13 @@ fn decide(db: &mut Database, order: &mut Order, query: &mut Query, under: &[Lit]
     }
 }
 
-/// Decides the next literal that is assumed, or else another.
+/// Decides the next literal that is assumed, or else another; one of the variables that are given, if any are.
 pub(crate) fn advance(
     db: &mut Database,
     order: &mut Order,
     query: &mut Query,
     under: &[Lit],
+    among: Option<&[Var]>,
 ) -> Move
     requires order { db.old.watched.trail.vars ≤ order.old }
     requires under { IsBelow db.old.watched.trail.vars under.now }
@@ -76,10 +84,12 @@ pub(crate) fn advance(
     ensures order { order.new ≡ order.old }
     ensures kept { IsKept db.old db.new }
     ensures lines { query.new.lines ≡ query.old.lines }
-    ensures advanced { IsAdvanced under.now db.old query.old db.new query.new result }
+    ensures list { list_of db.new ≡ list_of db.old }
+    ensures advanced { IsAdvanced under.now (option_copied among.entry) db.old query.old
+        db.new query.new result }
 {
     match next_assumed(db.trail(), under, &mut query.cursor) {
-        Next::True => decide(db, order, query, under),
+        Next::True => decide(db, order, query, under, among),
         Next::Open(lit) => Move::Decided(db.assign(lit)),
         Next::False(lit) => Move::Falsified(place_of(db.trail(), lit.not())),
     }

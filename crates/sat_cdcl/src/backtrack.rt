@@ -27,7 +27,7 @@ pub(crate) enum Reaction {
 }
 
 /// The decisions from some place on give way to a literal that the clause of this slot forces.
-fn backjump(
+pub(crate) fn backjump(
     db: &mut Database,
     order: &mut Order,
     query: &mut Query,

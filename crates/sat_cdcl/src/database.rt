@@ -118,6 +118,15 @@ impl Database {
         self.watch.tag(slot).number
     }
 
+    /// The clause of this number.
+    pub(crate) fn numbered(&self, number: u32) -> &Clause
+        requires { number < length (list_of self.now) }
+        ensures is { slice_get (list_of self.now) number ≡ Some result.now }
+        ensures below { IsBelow self.now.watched.trail.vars result.now }
+    {
+        self.watch.clause(self.slots[number as usize])
+    }
+
     /// The clause takes the next number, and a slot, which is told. It is not propagated.
     pub(crate) fn put(&mut self, clause: Clause) -> Result<u32, Memory>
         requires { IsBelow self.old.watched.trail.vars clause }

@@ -1,11 +1,12 @@
 //! Which variable is decided next, and with which sign.
 
-ghost use Rattle.std.specs.Prelude.{◌≡◌, ◌+◌, ◌*◌, ◌<◌, ◌≤◌, ◌^◌, None, false, length, IfOk, IfSome, IfNone, OnOk, OnErr};
+ghost use Rattle.std.specs.Prelude.{◌≡◌, ◌+◌, ◌*◌, ◌<◌, ◌≤◌, ◌^◌, None, false, length, option_copied, IfOk, IfSome, IfNone, OnOk, OnErr};
 ghost use Rattle.std.specs.Bool.{OnTrue};
 ghost use Rattle.ja_base.specs.Literals.{bit, variable};
 ghost use Rattle.ja_base.specs.Trails.{IsFull};
 ghost use Rattle.sat_plain.specs.Trails.{IsAssigned};
 ghost use Rattle.sat_watch.specs.Stores.{value_of};
+ghost use Rattle.sat_cdcl.specs.Assumptions.{IsDecidedFor};
 
 use ja_base::{Lit, Memory, Var};
 use sat_heap::Heap;
@@ -16,12 +17,17 @@ use std::marker::Model;
 /// Activities fade once in so many conflicts.
 const FADES_EVERY: u32 = 16;
 
-/// Variables by their activity, the sign of each when it last had a value, and how many conflicts came since activities faded.
+/// As many variables have literals.
+pub(crate) const MOST_VARS: u32 = 1 << 31;
+
+/// Variables by their activity, the sign of each when it last had a value, how many conflicts came since activities faded, and
+/// how many of the variables that a question gives were passed by.
 #[derive(Debug, Drop)]
 pub(crate) struct Order {
     heap: Heap,
     negs: Vec<bool>,
     conflicts: u32,
+    passed: usize,
 }
 
 impl Model for Order {
@@ -45,6 +51,16 @@ fn is_unset(trail: &Trail, var: Var) -> bool
     !trail.is_true(lit) && !trail.is_true(lit.not())
 }
 
+/// Whether the variable is one of the trail's, and has no value.
+fn is_open(trail: &Trail, var: Var) -> bool
+    ensures { OnTrue result ((var < trail.now.vars) × (var < 2 ^ 31)
+        × (bit trail.now.values (2 * var) ≡ false)
+        × (bit trail.now.values (2 * var + 1) ≡ false)) }
+{
+    let number = var.number();
+    number < MOST_VARS && number < trail.vars() && is_unset(trail, var)
+}
+
 impl Order {
     /// Each variable has activity 0 and is decided to be 0 at first.
     pub(crate) fn new(alloc: Global, vars: u32) -> Result<Order, Memory>
@@ -56,6 +72,7 @@ impl Order {
             heap,
             negs,
             conflicts: 0,
+            passed: 0,
         })
     }
 
@@ -108,6 +125,7 @@ impl Order {
         ensures same { self.new ≡ self.old }
         ensures is { IsAssigned trail.now }
     {
+        self.passed = 0;
         for at in to..trail.len() {
             self.release(trail.place(at).lit);
         }
@@ -145,15 +163,49 @@ impl Order {
         }
     }
 
-    /// A literal of a variable without a value, if there is one.
-    pub(crate) fn next(&mut self, trail: &Trail) -> Option<Lit>
+    /// The first of these variables without a value, behind those that were passed by.
+    fn take_of(&mut self, trail: &Trail, vars: &[Var]) -> Option<Var>
+        requires { trail.now.vars ≤ self.old }
+        ensures same { self.new ≡ self.old }
+        ensures some { IfSome result (λ var. (var < trail.now.vars) × (var < 2 ^ 31)
+            × (bit trail.now.values (2 * var) ≡ false)
+            × (bit trail.now.values (2 * var + 1) ≡ false)) }
+    {
+        for at in self.passed..vars.len() {
+            if is_open(trail, vars[at]) {
+                self.passed = at;
+                return Some(vars[at]);
+            }
+        }
+        None
+    }
+
+    /// A variable without a value, one of those that are given, if any are.
+    fn choose(&mut self, trail: &Trail, among: Option<&[Var]>) -> Option<Var>
+        requires { trail.now.vars ≤ self.old }
+        ensures same { self.new ≡ self.old }
+        ensures some { IfSome result (λ var. (var < trail.now.vars) × (var < 2 ^ 31)
+            × (bit trail.now.values (2 * var) ≡ false)
+            × (bit trail.now.values (2 * var + 1) ≡ false)) }
+        ensures full { IfNone result (IsDecidedFor (option_copied among.entry)
+            trail.now.vars trail.now.values) }
+    {
+        match among {
+            Some(vars) => self.take_of(trail, vars),
+            None => self.pick(trail),
+        }
+    }
+
+    /// A literal of a variable without a value, if there is one. Where variables are given, it is one of these.
+    pub(crate) fn next(&mut self, trail: &Trail, among: Option<&[Var]>) -> Option<Lit>
         requires { trail.now.vars ≤ self.old }
         ensures same { self.new ≡ self.old }
         ensures below { IfSome result (λ lit. variable lit < trail.now.vars) }
         ensures unset { IfSome result (λ lit. value_of trail.now.values lit ≡ None) }
-        ensures full { IfNone result (IsFull trail.now.vars trail.now.values) }
+        ensures full { IfNone result (IsDecidedFor (option_copied among.entry)
+            trail.now.vars trail.now.values) }
     {
-        let var = self.pick(trail)?;
+        let var = self.choose(trail, among)?;
         Some(Lit::new(var, self.negs[var.number() as usize]))
     }
 }

@@ -9,7 +9,7 @@ ghost use Rattle.sat_plain.specs.Outcomes.{IsFound, IsFoundTicked};
 ghost use Rattle.sat_cdcl.specs.Files.{list_of, places_of, IsKept, AreForcedAll};
 
 use crate::database::Database;
-use crate::decide::Order;
+use crate::decide::{MOST_VARS, Order};
 use crate::query::Query;
 use crate::search::search;
 use ja_base::{Clause, Lit, Memory, Meter, Var};
@@ -18,9 +18,6 @@ use refute_check::Lines;
 use sat_plain::{Payment, Sat, SatAnswer, pay};
 use std::alloc::Global;
 use std::marker::Model;
-
-/// As many variables have literals.
-const MOST_VARS: u32 = 1 << 31;
 
 /// A solver that learns a clause from each conflict and jumps back to where it forces a literal. From query to query it keeps
 /// the literals that the added clauses force, the signs that variables had, and their activities; it drops what it learnt.

@@ -37,7 +37,7 @@ pub(crate) enum Outcome {
 }
 
 /// Both signs of a literal, which need no line.
-fn both_signs(alloc: Global, lit: Lit) -> Result<Lits, Memory>
+pub(crate) fn both_signs(alloc: Global, lit: Lit) -> Result<Lits, Memory>
     ensures { IfOk result (λ core. core ≡ lit ∷ negated lit ∷ []) }
 {
     let mut core = Lits::new(alloc);
@@ -132,7 +132,7 @@ pub(crate) fn turn<F: Flag>(
     ensures flag { IsPolled F.may_rise F.raised flag.old flag.new }
 {
     match step {
-        Step::Quiet => match advance(db, order, query, under) {
+        Step::Quiet => match advance(db, order, query, under, None) {
             Move::Decided(next) => Outcome::GoesOn(next),
             Move::Full => match db.trail().row(alloc) {
                 Ok(row) => Outcome::Meets(row),

@@ -6,11 +6,11 @@ ghost use Rattle.ja_base.specs.Clauses.{IsBelow};
 use ja_base::{Clause, Lit, Lits, Memory, Row};
 use std::alloc::Global;
 
-// Literals over the variables 0 to 7 are bits of a mask, bit l for the literal l.
-pub(crate) const VARS: u32 = 8;
+// Literals over the variables 0 to 11 are bits of a mask, bit l for the literal l.
+pub(crate) const VARS: u32 = 12;
 
 pub(crate) fn lits_of(alloc: Global, mask: u64) -> Result<Lits, Memory>
-    ensures { IfOk result (IsBelow 8) }
+    ensures { IfOk result (IsBelow 12) }
 {
     let mut lits = Lits::new(alloc);
     for lit in 0..2 * VARS {
@@ -22,7 +22,7 @@ pub(crate) fn lits_of(alloc: Global, mask: u64) -> Result<Lits, Memory>
 }
 
 pub(crate) fn clause_of(alloc: Global, mask: u64) -> Result<Clause, Memory>
-    ensures { IfOk result (IsBelow 8) }
+    ensures { IfOk result (IsBelow 12) }
 {
     let lits = lits_of(alloc, mask)?;
     let clause = Clause::from_lits(alloc, lits.as_slice())?;

@@ -13,4 +13,4 @@ pub returns : goal.returns
 returns c =
     let P : List ℕ → Type 0 = λ v. IsSetOf v c.in_ok-clause.clause in
     let set = subst P c.as_slice.ensures.value c.in_ok-clause.ensures.set in
-    set_below 8 c.in_ok-lits.lits c.in_ok-clause.clause set c.in_ok-lits.ensures
+    set_below 12 c.in_ok-lits.lits c.in_ok-clause.clause set c.in_ok-lits.ensures

@@ -1,0 +1,11 @@
+use Rattle.std.proofs.Common.{◌≡◌, take}
+use Rattle.refute_check.specs.Checked.{clauses_at}
+use Rattle.sat_cdcl.specs.Files.{list_of}
+use Rattle.sat_cdcl.proofs.keep_sat.load.Given as goal
+
+abbrev pub invariant-loop-number : goal.invariant-loop-number
+invariant-loop-number l =
+    record {
+      vars : l.solver.vars ≡ l.db.watched.trail.vars;
+      added : l.solver.added ≡ clauses_at (list_of l.db) (take l.number-index l.added);
+    }
