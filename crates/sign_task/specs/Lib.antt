@@ -2,3 +2,4 @@ pub mod Openings
 pub mod Sections
 pub mod Joint
 pub mod SignOff
+pub mod Assembly
