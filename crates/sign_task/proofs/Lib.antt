@@ -1,3 +1,5 @@
 pub mod MarkLemmas
 pub mod StimulusLemmas
+pub mod PlaceLemmas
+pub mod ClauseLemmas
 pub mod CertifyLemmas

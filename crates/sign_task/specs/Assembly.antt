@@ -2,6 +2,7 @@
 use Rattle.std.specs.Prelude.{◌≡◌, ◌↔◌, ℕ, false, Option, Some, List, map, All, Contains, IsTrue}
 use Rattle.aig_model.specs.Task.{VerificationTask}
 use Rattle.ja_base.specs.Failures.{Failure}
+use Rattle.local_stim.specs.Found.{FoundFailure}
 use Rattle.store_core.specs.declared.journal.Entry.{Entry}
 use Rattle.store_core.specs.declared.mark.Mark.{Mark}
 use Rattle.debug_set.specs.Verdicts.{IsDebuggingSet, IsJoined}
@@ -12,6 +13,11 @@ use Rattle.sign_task.specs.Sections.{assumed_of, sizes_of}
 -- the stimulus is that of one of the failures, which is of its property
 abbrev pub IsOneOf : List Failure → PropStim → Type 0
 IsOneOf failures x = Contains failures (record { property = x.prop; stimulus = x.stim })
+
+-- the failures as plain data
+abbrev pub plain_failures : List FoundFailure → List Failure
+plain_failures failures =
+    map (λ (f : FoundFailure). record { property = f.prop; stimulus = f.stim }) failures
 
 -- Each section is made of the marks, the clauses, the failures and the journal of the board; the journal is not shown.
 pub record IsAssembled (t : VerificationTask) (marks : List (Option Mark)) (clauses : List (List ℕ))

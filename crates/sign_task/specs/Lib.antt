@@ -3,3 +3,5 @@ pub mod Sections
 pub mod Joint
 pub mod SignOff
 pub mod Assembly
+pub mod Underway
+pub mod Places
