@@ -81,8 +81,8 @@ module _ (t : VerificationTask) (o : Opening) (s : State) (failures : List Failu
       All-contains (IsLocalFailure (problem t) x.prop) (shown.stimulus ∷ []) x.stim
       (All-one (IsLocalFailure (problem t) x.prop) shown.stimulus shown.fails) in_one
 
-  local : All (λ (x : PropStim). IsLocalFailure (problem t) x.prop x.stim) r.stimuli
-  local = All-weaker (IsOneOf failures) (λ (x : PropStim). IsLocalFailure (problem t) x.prop x.stim) one_local r.stimuli
+  pub all_local : All (λ (x : PropStim). IsLocalFailure (problem t) x.prop x.stim) r.stimuli
+  all_local = All-weaker (IsOneOf failures) (λ (x : PropStim). IsLocalFailure (problem t) x.prop x.stim) one_local r.stimuli
       e.made.among
 
   never_fails : (p : ℕ) → HasMark r p Proved → FailsLocally (problem t) p → ⊥
@@ -146,7 +146,7 @@ module _ (t : VerificationTask) (o : Opening) (s : State) (failures : List Failu
   still_shown p h =
       let zero_plus : 0 + p ≡ p = omega arith in
       let one : HasOne p r.stimuli = subst (λ q. HasOne q r.stimuli) zero_plus (has_one p 0 marks r.stimuli e.made.one_each h) in
-      let fails = All-contains (λ (x : PropStim). IsLocalFailure (problem t) x.prop x.stim) r.stimuli one.one local one.in_list in
+      let fails = All-contains (λ (x : PropStim). IsLocalFailure (problem t) x.prop x.stim) r.stimuli one.one all_local one.in_list in
       record {
         stimulus = one.one.stim;
         only = one.only;
@@ -176,7 +176,7 @@ module _ (t : VerificationTask) (o : Opening) (s : State) (failures : List Failu
   pub board_certifies : FirstBrokenIsNamed → Certifies (problem t) o r
   board_certifies law = record {
     right = record {
-      failures = record { one_each = e.made.one_each; local = local };
+      failures = record { one_each = e.made.one_each; local = all_local };
       clauses = record {
         inductive = inductive;
         reached = λ state. reachable_meets (problem t) r.clauses state inductive;

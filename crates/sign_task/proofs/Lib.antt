@@ -3,3 +3,5 @@ pub mod StimulusLemmas
 pub mod PlaceLemmas
 pub mod ClauseLemmas
 pub mod CertifyLemmas
+pub mod FormLemmas
+pub mod EndLemmas

@@ -58,17 +58,18 @@ pub(crate) fn report_of(alloc: Global, task: &Task, board: SignBoard) -> Result<
     let parts = board.into_parts();
     parts.list.is_closed();
     first_broken_is_named();
-    let marks = marks_of(alloc, parts.marks.as_slice())?;
-    let lines = lines_of(alloc, task.expect(), marks.as_slice())?;
+    let kept = marks_of(alloc, parts.marks.as_slice())?;
+    let (marks, expect) = (kept.as_slice(), task.expect());
+    let lines = lines_of(alloc, expect, marks)?;
     let clauses = clauses_of(alloc, &parts.list)?;
-    let stimuli = stimuli_of(alloc, marks.as_slice(), parts.failures.as_slice())?;
-    let set = debugging_set(alloc, task.expect(), marks.as_slice())?;
+    let stimuli = stimuli_of(alloc, marks, parts.failures.as_slice())?;
+    let set = debugging_set(alloc, expect, marks)?;
     Ok(Report {
         sizes: sizes_of(task.design()),
         lines,
         clauses,
         stimuli,
-        joined: is_joined(task.expect(), marks.as_slice()),
+        joined: is_joined(expect, marks),
         set,
         journal: parts.journal,
         shown: false,
