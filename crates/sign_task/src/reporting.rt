@@ -2,6 +2,7 @@
 
 ghost use Rattle.std.specs.Prelude.{◌≡◌, All, IfOk, OnOk};
 ghost use Rattle.std.specs.List.Sorted.{IsStrictlyIncreasing};
+ghost use Rattle.aig_model.specs.Netlist.{IsSound};
 ghost use Rattle.sign_task.specs.Sections.{sizes_of};
 ghost use Rattle.sign_task.specs.SignOff.{IsSignOff};
 ghost use Rattle.sign_task.specs.Underway.{IsUnderway, IsOver};
@@ -17,7 +18,8 @@ use report::{Report, Sizes};
 use std::alloc::Global;
 
 fn sizes_of(design: &Design) -> Sizes
-    ensures { result ≡ sizes_of design.now }
+    ensures sizes { result ≡ sizes_of design.now }
+    ensures sound { IsSound design.now }
 {
     Sizes {
         vars: design.vars(),
