@@ -5,3 +5,5 @@ pub mod ClauseLemmas
 pub mod CertifyLemmas
 pub mod FormLemmas
 pub mod EndLemmas
+pub mod JudgementLemmas
+pub mod DrawLemmas

@@ -1,9 +1,9 @@
 -- The board of a sign-off while it goes on, and once it is over.
-use Rattle.std.specs.Prelude.{◌≡◌, ℕ, ◌<◌, Some, None, length, slice_get, IsSome, Option}
+use Rattle.std.specs.Prelude.{◌≡◌, ℕ, ◌<◌, Some, None, length, slice_get, IsSome, IfSome, Option}
 use Rattle.aig_model.specs.Task.{VerificationTask, problem}
 use Rattle.inv_cert.specs.Closed.{ClosedList}
 use Rattle.local_stim.specs.Found.{FoundFailure}
-use Rattle.store_core.specs.Steps.{mark_of}
+use Rattle.store_core.specs.Steps.{drawn, job_of, mark_of}
 use Rattle.store_core.specs.Boards.{BoardValue}
 use Rattle.job_plan.specs.Plans.{IsPlan}
 use Rattle.sign_task.specs.Openings.{opening_of}
@@ -33,19 +33,19 @@ AreMarked board = (k p : ℕ) → k < board.state.place → slice_get board.open
 abbrev pub IsOver : VerificationTask → SignBoard → Type 0
 IsOver t board = (p : ℕ) → p < length t.design.bads → IsMarked board p
 
--- the next place was drawn
-pub record HasDrawn (before after : SignBoard) : Type 0 where
+-- The next property of the plan, if there is one, was drawn; nothing else changed.
+pub record IsDrawn (before after : SignBoard) (next : Option ℕ) : Type 0 where
+  pub job : next ≡ job_of before.opening before.state
   pub opening : after.opening ≡ before.opening
+  pub state : after.state ≡ drawn next before.state
   pub task : problem after.list.task ≡ problem before.list.task
-  pub marks : after.state.marks ≡ before.state.marks
-  pub going : after.state.cancel ≡ before.state.cancel
+  pub within : IfSome next (λ p. p < length before.opening.assumed)
 
--- a property was settled, and others keep their marks
-pub record HasSettled (p : ℕ) (before after : SignBoard) : Type 0 where
+-- some property was settled: marks stay, and nothing but marks, clauses, failures and the journal changed
+pub record Keeps (before after : SignBoard) : Type 0 where
   pub opening : after.opening ≡ before.opening
   pub task : problem after.list.task ≡ problem before.list.task
   pub place : after.state.place ≡ before.state.place
   pub going : after.state.cancel ≡ before.state.cancel
   pub width : length after.state.marks ≡ length before.state.marks
   pub stay : (q : ℕ) → IsMarked before q → IsMarked after q
-  pub marked : IsMarked after p

@@ -1,6 +1,8 @@
 //! A task signed off on the calling thread. What its report promises stands in `specs/SignOff`.
 #![tactic(auto)]
 
+mod asking;
+mod deciding;
 mod marks;
 mod opening;
 mod reporting;
