@@ -135,8 +135,7 @@ IsQuiet before after (Replayed verdict prop steps) = after ≡ before
 IsQuiet before after (Signed report) = after ≡ before
 IsQuiet before after (Stopped stop) = IsQuietStop before after stop
 
--- The text was written with no fault, and the status is this one; or the sink failed, a part of the text stands, and the status is
--- 5.
+-- The text was written with no fault, and the status is this one; or the sink failed, a part of it stands, and the status is 5.
 abbrev pub Writes : List ℕ → ℕ → ℕ → Option (List ℕ) → Option (List ℕ) → ℕ → ℕ → Type 0
 Writes text status result before after faults_before faults_after =
     ((result ≡ status) × Appends before after text × (faults_after ≡ faults_before))

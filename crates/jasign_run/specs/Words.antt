@@ -35,8 +35,8 @@ confirm_names (command ∷ design ∷ stim ∷ expect ∷ []) =
     else None
 confirm_names words = None
 
--- what `sign` is asked for: the names of its files, of which that of the expectations may be left out, and the units that may be
--- spent on one property, if there is a limit
+-- What `sign` is asked for: the names of its files, of which that of the expectations may be left out, and the units that may be
+-- spent on one property, if there is a limit.
 pub record Order : Type 0 where
   pub design : List ℕ
   pub expect : Option (List ℕ)

@@ -82,8 +82,8 @@ fn write_text<K: Sink>(out: &mut K, text: &[u8], status: u8) -> u8
     }
 }
 
-/// Writes the outcome's text, and answers its status and its report. The text is made whole before its first byte is written; want
-/// of memory for it is an outcome of its own.
+/// Writes the outcome's text, and answers its status and its report. The text is made whole before its first byte is
+/// written; want of memory for it is an outcome of its own.
 pub fn finish<K: Sink>(alloc: Global, outcome: Outcome, out: &mut K) -> Ran
     ensures ends { (o : Outcomes) × ((o ≡ outcome) ⊎ (o ≡ Stopped stop.Memory))
         × (result.report ≡ outcome_report o)

@@ -13,7 +13,8 @@ use crate::words::{confirm_names, sign_order};
 use ja_outside::{Shelf, Sink};
 use std::alloc::Global;
 
-/// Does what the words say, which are those of a command line without the program's name, and writes one line or one report.
+/// Does what the words say, which are those of a command line without the program's name, and writes one line or one
+/// report.
 pub fn jasign_run<F: Shelf, K: Sink>(
     alloc: Global,
     words: &[String],

@@ -61,8 +61,8 @@ fn outcome_of<F: Shelf>(alloc: Global, order: Order, shelf: &mut F) -> Outcome
     }
 }
 
-/// Signs off the design that stands under a name, where each property is expected to hold unless the file of expectations says that it
-/// fails; writes the report, and answers it with its status.
+/// Signs off the design that stands under a name, where each property is expected to hold unless the file of expectations
+/// says that it fails; writes the report, and answers it with its status.
 pub fn sign_run<F: Shelf, K: Sink>(alloc: Global, order: Order, shelf: &mut F, out: &mut K) -> Ran
     ensures kept { F.holds shelf.new ≡ F.holds shelf.old }
     ensures means { (o : Outcomes)
