@@ -19,7 +19,11 @@ pub use outcome::{Outcome, Ran, Stop};
 pub use run::jasign_run;
 
 #[cfg(test)]
+mod report_tests;
+#[cfg(test)]
 mod rows;
+#[cfg(test)]
+mod sign_rows;
 #[cfg(test)]
 mod sign_tests;
 #[cfg(test)]
