@@ -1,7 +1,6 @@
 -- What is left to do falls with each cube that waited, and ends.
-use Rattle.std.proofs.Common.{◌≡◌, ℕ, suc, zero, ◌+◌, ◌*◌, ◌-◌, ◌^◌, ◌<◌, ◌≤◌, Bool, true, false, List, [], ◌∷◌, ◌++◌, length, take, drop, slice_get, Option, None, Some, refl, sym, ap, ◌∙◌, subst, arith}
+use Rattle.std.proofs.Common.{◌≡◌, ℕ, suc, zero, ◌+◌, ◌*◌, ◌-◌, ◌^◌, ◌<◌, ◌≤◌, List, [], ◌∷◌, ◌++◌, length, take, drop, slice_get, Option, None, Some, sym, ap, ◌∙◌, subst, arith}
 use Rattle.std.specs.Prelude.{All}
-use Rattle.std.proofs.lemmas.List.{length-append}
 use Rattle.std.proofs.lemmas.List.Elements.{All-append, All-drop, All-take}
 use Rattle.std.proofs.lemmas.Option.{get_or_from_slice_get, slice_get_within}
 use Rattle.aig_model.specs.Task.{VerificationTask}
@@ -11,7 +10,7 @@ use Rattle.ic3_frames.specs.Sums.{potential}
 use Rattle.ic3_frames.proofs.TopLemmas.{sum_is_bounded}
 use Rattle.ic3_oblig.specs.declared.obligation.Obligation.{Obligation}
 use Rattle.ic3_oblig.specs.Lowest.{IsTaken}
-use Rattle.ic3_engine.specs.Clearing.{GoesOn, Passes, room_above, work_left}
+use Rattle.ic3_engine.specs.Clearing.{GoesOn, Passes, work_left}
 use Rattle.ic3_engine.specs.Searching.{latch_vars}
 use Rattle.ic3_engine.specs.Turns.{Blocks, Descends, Fails, State, state}
 use Rattle.ic3_query.specs.Known.{KnownList}

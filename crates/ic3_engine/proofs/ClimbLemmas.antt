@@ -1,20 +1,19 @@
 -- The top is covered: what a fixed level and a new top leave.
-use Rattle.std.proofs.Common.{◌≡◌, ℕ, suc, zero, ◌+◌, ◌-◌, ◌^◌, ◌<◌, ◌≤◌, Bool, true, false, List, [], length, get_or, Option, None, Some, refl, sym, ap, ◌∙◌, subst, arith}
-use Rattle.std.specs.Prelude.{All}
+use Rattle.std.proofs.Common.{◌≡◌, ℕ, suc, zero, ◌+◌, ◌^◌, ◌≤◌, true, false, List, [], length, get_or, sym, ◌∙◌, arith}
 use Rattle.std.proofs.lemmas.Bool.{false≢true}
 use Rattle.ja_base.specs.Invariants.{Covers}
 use Rattle.aig_model.specs.Netlist.{circuit}
 use Rattle.aig_model.specs.Task.{VerificationTask, problem}
 use Rattle.ic3_frames.specs.Apart.{IsTighter}
-use Rattle.ic3_frames.specs.Levels.{Entry, Levels, HasOwnBelow}
+use Rattle.ic3_frames.specs.Levels.{Levels, HasOwnBelow}
 use Rattle.ic3_frames.specs.Soundness.{IsIn}
-use Rattle.ic3_frames.specs.Sums.{IsOver, clauses_over, greatest, potential}
+use Rattle.ic3_frames.specs.Sums.{clauses_over, greatest, potential}
 use Rattle.ic3_frames.proofs.SoundLemmas.{in_higher}
 use Rattle.ic3_frames.proofs.SumLemmas.{sum_rises}
 use Rattle.ic3_frames.proofs.TopLemmas.{top_is_bounded}
-use Rattle.ic3_query.specs.Known.{KnownList, all_of}
+use Rattle.ic3_query.specs.Known.{all_of}
 use Rattle.ic3_query.specs.Questions.{IsGoodFrom}
-use Rattle.ic3_engine.specs.Climbing.{Climbs, IsEngine}
+use Rattle.ic3_engine.specs.Climbing.{Climbs}
 use Rattle.ic3_engine.specs.Raising.{IsRaised}
 use Rattle.ic3_engine.specs.Searching.{IsSearch, latch_vars}
 use Rattle.ic3_engine.specs.Turns.{State}

@@ -1,5 +1,5 @@
 -- Rounds at the top.
-use Rattle.std.proofs.Common.{◌≡◌, ℕ, ◌+◌, ◌*◌, ◌-◌, ◌^◌, ◌<◌, ◌≤◌, Bool, false, List, length, refl, sym, ap, subst, arith}
+use Rattle.std.proofs.Common.{◌≡◌, ℕ, ◌*◌, ◌-◌, ◌^◌, ◌<◌, ◌≤◌, Bool, false, List, length, refl, sym, ap, subst, arith}
 use Rattle.ja_base.specs.Valuation.{latch_row}
 use Rattle.aig_model.specs.Netlist.{IsSound, circuit}
 use Rattle.aig_model.specs.Task.{VerificationTask}

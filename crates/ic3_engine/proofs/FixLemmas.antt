@@ -1,9 +1,8 @@
 -- The clauses of a fixed level become known.
-use Rattle.std.proofs.Common.{◌≡◌, ℕ, suc, zero, ◌+◌, ◌-◌, ◌<◌, ◌≤◌, Bool, true, false, cond, List, [], ◌∷◌, ◌++◌, length, get_or, take, map, slice_get, Some, refl, sym, ap, ◌∙◌, subst, arith, append_assoc}
-use Rattle.std.specs.Prelude.{nat_le, filter, if◌then◌else◌, All, Contains}
+use Rattle.std.proofs.Common.{◌≡◌, ℕ, suc, zero, ◌+◌, ◌≤◌, Bool, true, false, cond, List, [], ◌∷◌, ◌++◌, take, map, slice_get, Some, refl, sym, ap, ◌∙◌, subst, arith, append_assoc}
+use Rattle.std.specs.Prelude.{nat_le, filter, if◌then◌else◌, All}
 use Rattle.std.proofs.lemmas.List.Elements.{All-append, All-cons, All-head, All-nil, All-tail}
-use Rattle.ja_base.specs.Circuit.{Problem}
-use Rattle.ja_base.specs.Invariants.{Covers, IsInductive, MeetsClauses, latch_value}
+use Rattle.ja_base.specs.Invariants.{Covers, MeetsClauses, latch_value}
 use Rattle.ja_base.specs.Literals.{SatisfiedBy}
 use Rattle.ja_base.proofs.JoinLemmas.{first_is_part, second_is_part}
 use Rattle.inv_cert.proofs.InductionLemmas.{All-part}
@@ -13,10 +12,9 @@ use Rattle.ja_project.specs.Latches.{is_foreign}
 use Rattle.ic3_frames.specs.Apart.{IsTighter}
 use Rattle.ic3_frames.specs.Levels.{Entry, Levels, IsLeastFixed, at_level, is_blocked, stands_at}
 use Rattle.ic3_frames.specs.Soundness.{IsIn, MeetsAt}
-use Rattle.ic3_frames.specs.Sums.{greatest}
 use Rattle.ic3_frames.proofs.SoundLemmas.{fixed_is_inductive, in_higher, met_where_listed}
 use Rattle.ic3_oblig.specs.declared.obligation.Obligation.{Obligation}
-use Rattle.ic3_query.specs.Known.{AreOwn, IsKnown, KnownList, all_of}
+use Rattle.ic3_query.specs.Known.{IsKnown, KnownList, all_of}
 use Rattle.ic3_query.specs.Questions.{IsGoodFrom}
 use Rattle.ic3_query.specs.Serving.{Serves}
 use Rattle.ic3_engine.specs.Putting.{put_all}

@@ -1,12 +1,10 @@
 -- What is kept at a level.
-use Rattle.std.proofs.Common.{◌≡◌, ℕ, suc, zero, ◌+◌, ◌<◌, ◌≤◌, Bool, true, false, List, [], ◌∷◌, ◌++◌, length, get_or, refl, sym, arith}
-use Rattle.std.specs.Prelude.{All}
-use Rattle.std.proofs.lemmas.List.Elements.{All-from_recursion}
+use Rattle.std.proofs.Common.{ℕ, suc, zero, ◌+◌, ◌<◌, Bool, List, arith}
 use Rattle.aig_model.specs.Netlist.{circuit}
 use Rattle.aig_model.specs.Task.{VerificationTask}
-use Rattle.ic3_frames.specs.Levels.{Entry, Levels, AreLevels}
-use Rattle.ic3_frames.specs.Soundness.{IsBlockedFrom, IsIn, Meets, MeetsAt}
-use Rattle.ic3_query.specs.Known.{HoldsAtStart, IsForGood, IsKept}
+use Rattle.ic3_frames.specs.Levels.{Levels, AreLevels}
+use Rattle.ic3_frames.specs.Soundness.{IsBlockedFrom, IsIn}
+use Rattle.ic3_query.specs.Known.{HoldsAtStart, IsForGood}
 use Rattle.ic3_query.specs.Questions.{IsKeptAt}
 
 -- each row is of the level above the top

@@ -12,3 +12,6 @@ pub mod FixLemmas
 pub mod ClimbLemmas
 pub mod StartingLemmas
 pub mod CloseLemmas
+pub mod LearnLemmas
+pub mod ViewLemmas
+pub mod OwnLemmas

@@ -1,27 +1,23 @@
 -- Known clauses at the top: what stays true of the levels.
-use Rattle.std.proofs.Common.{◌≡◌, ℕ, suc, zero, ◌+◌, ◌-◌, ◌<◌, ◌≤◌, Bool, true, false, cond, List, [], ◌∷◌, ◌++◌, length, get_or, drop, slice_get, Some, refl, sym, ap, ◌∙◌, subst, arith}
+use Rattle.std.proofs.Common.{◌≡◌, ℕ, suc, zero, ◌+◌, ◌-◌, ◌≤◌, Bool, true, false, cond, List, [], ◌∷◌, ◌++◌, drop, slice_get, Some, refl, sym, ap, ◌∙◌, subst, arith}
 use Rattle.std.specs.Prelude.{All, Contains}
 use Rattle.std.proofs.lemmas.List.Elements.{All-contains, All-head, All-tail, All-nil, All-cons, Contains-get_or}
-use Rattle.ja_base.specs.Circuit.{Circuit}
 use Rattle.ja_base.specs.Invariants.{IsInductive, MeetsClauses, latch_value}
-use Rattle.ja_base.specs.Literals.{AllSatisfiedBy, SatisfiedBy, value}
-use Rattle.ja_base.specs.Runs.{IsInitial}
+use Rattle.ja_base.specs.Literals.{SatisfiedBy}
 use Rattle.ja_base.specs.Valuation.{latch_row}
-use Rattle.aig_model.specs.Netlist.{Netlist, circuit}
+use Rattle.aig_model.specs.Netlist.{circuit}
 use Rattle.aig_model.specs.Task.{VerificationTask}
 use Rattle.ja_project.specs.Latches.{is_foreign}
-use Rattle.ic3_frames.specs.Apart.{AreApart, IsTighter}
-use Rattle.ic3_frames.specs.Levels.{Entry, Levels, AreLevels, added, is_blocked}
-use Rattle.ic3_frames.specs.Soundness.{AreSound, Gains, IsBlockedFrom, IsIn, Meets}
+use Rattle.ic3_frames.specs.Apart.{IsTighter}
+use Rattle.ic3_frames.specs.Levels.{Entry, Levels, added, is_blocked}
+use Rattle.ic3_frames.specs.Soundness.{Gains, IsBlockedFrom, IsIn, Meets}
 use Rattle.ic3_frames.proofs.ApartLemmas.{additions_stay_apart}
 use Rattle.ic3_frames.proofs.GainLemmas.{additions_gain}
 use Rattle.ic3_frames.proofs.LevelLemmas.{All-added}
 use Rattle.ic3_frames.proofs.SoundLemmas.{gains_are_sound}
 use Rattle.ic3_frames.proofs.SumLemmas.{additions_never_lower}
 use Rattle.ic3_query.specs.Known.{AreOwn}
-use Rattle.ic3_query.specs.Questions.{AreOwnLevels}
-use Rattle.ic3_query.specs.Serving.{Fits, Holds, Serves}
-use Rattle.ic3_query.specs.Switches.{IsExactly, IsOn}
+use Rattle.ic3_query.specs.Serving.{Serves}
 use Rattle.ic3_engine.specs.Putting.{put_all, put_at}
 use Rattle.ic3_engine.specs.Searching.{IsCore}
 use Rattle.ic3_engine.proofs.LevelLemmas.{added_blocks, stays_blocked}

@@ -1,15 +1,14 @@
 -- Clauses that move up.
-use Rattle.std.proofs.Common.{◌≡◌, ℕ, suc, zero, ◌+◌, ◌<◌, ◌≤◌, ◌&&◌, ◌||◌, Bool, true, false, List, [], ◌∷◌, length, get_or, slice_get, slice_set, Some, ⊎_elim, refl, sym, ap, ◌∙◌, subst, arith}
+use Rattle.std.proofs.Common.{◌≡◌, ℕ, suc, zero, ◌+◌, ◌<◌, ◌≤◌, true, false, List, [], ◌∷◌, length, get_or, slice_get, Some, ⊎_elim, refl, sym, ap, ◌∙◌, subst, arith}
 use Rattle.std.specs.Prelude.{nat_le, All}
 use Rattle.std.proofs.lemmas.Bool.{or_cases, or_left, or_right, and_parts}
-use Rattle.std.proofs.lemmas.Bool.Decides.{nat_tests}
 use Rattle.std.proofs.lemmas.List.Elements.{All-cons, All-head, All-tail}
 use Rattle.std.proofs.lemmas.Option.{get_or_from_slice_get, same_Some, slice_get-get_or, slice_get_within}
 use Rattle.ja_base.specs.Clauses.{is_part}
 use Rattle.aig_model.specs.Netlist.{circuit}
 use Rattle.aig_model.specs.Task.{VerificationTask, problem}
 use Rattle.ja_project.specs.Latches.{is_foreign}
-use Rattle.ic3_frames.specs.Apart.{AreApart, IsTighter}
+use Rattle.ic3_frames.specs.Apart.{AreApart}
 use Rattle.ic3_frames.specs.Levels.{Entry, Levels, IfEntry, is_blocked, is_blocked_by, moved}
 use Rattle.ic3_frames.specs.Sums.{greatest}
 use Rattle.ic3_frames.specs.Soundness.{AreSound, Gains, IsBlockedFrom, Meets, MeetsAt}

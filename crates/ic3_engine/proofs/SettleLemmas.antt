@@ -1,17 +1,17 @@
 -- Levels with one clause more, which was not blocked at its level: a step.
-use Rattle.std.proofs.Common.{◌≡◌, ℕ, suc, zero, ◌+◌, ◌-◌, ◌<◌, ◌≤◌, Bool, true, false, List, [], ◌∷◌, ◌++◌, length, refl, sym, ap, ◌∙◌, subst, arith, append_assoc}
+use Rattle.std.proofs.Common.{◌≡◌, ℕ, ◌+◌, ◌-◌, ◌<◌, ◌≤◌, Bool, true, false, List, [], ◌∷◌, ◌++◌, sym, ap, ◌∙◌, subst, arith, append_assoc}
 use Rattle.std.specs.Prelude.{All}
 use Rattle.std.proofs.lemmas.List.Elements.{All-push}
 use Rattle.ja_base.specs.Circuit.{Circuit}
 use Rattle.ja_base.specs.Invariants.{latch_value, MeetsClauses}
 use Rattle.ja_base.specs.Literals.{SatisfiedBy}
-use Rattle.ja_base.proofs.JoinLemmas.{first_is_part, second_is_part}
+use Rattle.ja_base.proofs.JoinLemmas.{first_is_part}
 use Rattle.aig_model.specs.Netlist.{circuit}
 use Rattle.aig_model.specs.Task.{VerificationTask}
 use Rattle.inv_cert.proofs.InductionLemmas.{All-part}
 use Rattle.ja_project.specs.Latches.{is_foreign}
-use Rattle.ic3_frames.specs.Levels.{Entry, Levels, AreLevels, added, is_blocked}
-use Rattle.ic3_frames.specs.Soundness.{AreSound, Gains, IsBlockedFrom, Meets}
+use Rattle.ic3_frames.specs.Levels.{Entry, Levels, added, is_blocked}
+use Rattle.ic3_frames.specs.Soundness.{AreSound, Gains, IsBlockedFrom}
 use Rattle.ic3_frames.specs.Sums.{potential}
 use Rattle.ic3_frames.specs.Apart.{AreApart}
 use Rattle.ic3_frames.proofs.ApartLemmas.{additions_stay_apart}
@@ -22,7 +22,7 @@ use Rattle.ic3_frames.proofs.SumLemmas.{additions_raise}
 use Rattle.ic3_query.specs.Known.{IsForGood, KnownList, all_of}
 use Rattle.ic3_query.specs.Questions.{AreOwnLevels, IsKeptAt}
 use Rattle.ic3_query.specs.Serving.{Serves}
-use Rattle.ic3_engine.specs.Searching.{IsCore, IsSearch, IsStep, latch_vars}
+use Rattle.ic3_engine.specs.Searching.{IsSearch, IsStep, latch_vars}
 use Rattle.ic3_engine.proofs.ClauseLemmas.{own_is_over}
 use Rattle.ic3_engine.proofs.KeepLemmas.{kept_is_blocked}
 use Rattle.ic3_engine.proofs.LevelLemmas.{added_blocks, stays_blocked}

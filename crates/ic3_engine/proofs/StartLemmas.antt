@@ -1,8 +1,7 @@
 -- What a clause says of initial rows.
-use Rattle.std.proofs.Common.{◌≡◌, ℕ, Bool, true, false, List, ⊎_elim, sym, ◌∙◌}
+use Rattle.std.proofs.Common.{◌≡◌, ℕ, Bool, true, List, ⊎_elim}
 use Rattle.std.specs.List.{list_any}
 use Rattle.std.proofs.lemmas.Bool.{both_ways, cases_Bool}
-use Rattle.ja_base.specs.Circuit.{Circuit}
 use Rattle.ja_base.specs.Invariants.{latch_value}
 use Rattle.ja_base.specs.Runs.{IsInitial}
 use Rattle.aig_model.specs.Netlist.{Netlist, IsSound, circuit}

@@ -1,19 +1,17 @@
 -- The first levels.
-use Rattle.std.proofs.Common.{◌≡◌, ℕ, zero, suc, ◌+◌, ◌^◌, ◌<◌, ◌≤◌, Bool, true, false, List, [], length, refl, sym, ap, ◌∙◌, subst, arith}
+use Rattle.std.proofs.Common.{◌≡◌, ℕ, ◌+◌, ◌≤◌, true, false, List, [], sym, ap, subst, arith}
 use Rattle.std.specs.Prelude.{All}
 use Rattle.std.proofs.lemmas.List.Elements.{All-nil}
-use Rattle.ja_base.specs.Circuit.{Problem}
 use Rattle.aig_model.specs.Netlist.{circuit}
 use Rattle.aig_model.specs.Task.{VerificationTask, problem}
 use Rattle.ja_project.specs.Latches.{is_foreign}
 use Rattle.ic3_frames.specs.Levels.{Entry, Levels, is_blocked}
 use Rattle.ic3_frames.specs.Soundness.{Meets}
-use Rattle.ic3_oblig.specs.declared.obligation.Obligation.{Obligation}
 use Rattle.ic3_query.specs.Known.{IsKnown, KnownList, all_of}
 use Rattle.ic3_query.specs.Serving.{Serves}
 use Rattle.ic3_engine.specs.Climbing.{IsEngine}
 use Rattle.ic3_engine.specs.Putting.{put_all}
-use Rattle.ic3_engine.specs.Searching.{IsCore, latch_vars}
+use Rattle.ic3_engine.specs.Searching.{IsCore}
 use Rattle.ic3_engine.specs.Turns.{state}
 use Rattle.ic3_engine.proofs.PutLemmas.{known_is_put}
 use Rattle.ic3_engine.proofs.RaiseLemmas.{put_core}

@@ -1,5 +1,5 @@
 -- What comes of clearing all that waits, and of covering the property at the top.
-use Rattle.std.specs.Prelude.{◌≡◌, ℕ, ◌+◌, ◌*◌, ◌-◌, ◌^◌, ◌<◌, ◌≤◌, Option, Some, None, List, [], length}
+use Rattle.std.specs.Prelude.{◌≡◌, ℕ, ◌+◌, ◌*◌, ◌-◌, ◌^◌, ◌<◌, ◌≤◌, Option, Some, None, [], length}
 use Rattle.aig_model.specs.Task.{VerificationTask}
 use Rattle.local_stim.specs.Found.{FoundFailure}
 use Rattle.ic3_frames.specs.Sums.{potential}

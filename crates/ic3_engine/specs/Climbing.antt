@@ -1,5 +1,5 @@
 -- What comes of a fixed level and of a new top.
-use Rattle.std.specs.Prelude.{◌≡◌, ℕ, ◌+◌, ◌-◌, ◌^◌, ◌≤◌, Bool, true, false, List, [], length}
+use Rattle.std.specs.Prelude.{◌≡◌, ℕ, ◌+◌, ◌^◌, ◌≤◌, Bool, true, false, [], length}
 use Rattle.ja_base.specs.Invariants.{Covers}
 use Rattle.aig_model.specs.Netlist.{circuit}
 use Rattle.aig_model.specs.Task.{VerificationTask, problem}

@@ -10,3 +10,5 @@ pub mod Raising
 pub mod Climbing
 pub mod Engines
 pub mod Found
+pub mod Shares
+pub mod Local

@@ -1,10 +1,10 @@
 -- What a push and a new top do to the levels.
-use Rattle.std.specs.Prelude.{◌≡◌, ℕ, ◌+◌, ◌≤◌, true, Option, Some, None, List, length, map, All}
+use Rattle.std.specs.Prelude.{◌≡◌, ℕ, true, List, length}
 use Rattle.aig_model.specs.Netlist.{circuit}
 use Rattle.aig_model.specs.Task.{VerificationTask}
 use Rattle.ic3_frames.specs.Apart.{IsTighter}
-use Rattle.ic3_frames.specs.Levels.{Entry, Levels, is_blocked}
-use Rattle.ic3_query.specs.Known.{KnownList, all_of}
+use Rattle.ic3_frames.specs.Levels.{Levels, is_blocked}
+use Rattle.ic3_query.specs.Known.{all_of}
 use Rattle.ic3_engine.specs.Searching.{IsCore, IsSearch}
 use Rattle.ic3_engine.specs.Turns.{State}
 

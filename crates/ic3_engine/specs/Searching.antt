@@ -1,11 +1,11 @@
 -- What a search keeps of its levels and its solver, and how a descent changes them.
-use Rattle.std.specs.Prelude.{◌≡◌, ℕ, ◌+◌, ◌<◌, ◌≤◌, Bool, true, false, List, map, All}
+use Rattle.std.specs.Prelude.{◌≡◌, ℕ, ◌<◌, ◌≤◌, true, false, List, map, All}
 use Rattle.ja_base.specs.Circuit as plain
 use Rattle.aig_model.specs.Netlist.{Netlist, circuit}
 use Rattle.aig_model.specs.Task.{VerificationTask}
 use Rattle.ja_project.specs.Latches.{is_foreign}
 use Rattle.ja_base.specs.Clauses.{is_part}
-use Rattle.ic3_frames.specs.Levels.{Entry, Levels, AreLevels, is_blocked}
+use Rattle.ic3_frames.specs.Levels.{Levels, AreLevels, is_blocked}
 use Rattle.ic3_frames.specs.Soundness.{AreSound}
 use Rattle.ic3_frames.specs.Sums.{potential}
 use Rattle.ic3_frames.specs.Apart.{AreApart}

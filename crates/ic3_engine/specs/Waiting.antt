@@ -1,6 +1,5 @@
 -- What waits to be blocked, and which failures a search may find.
-use Rattle.std.specs.Prelude.{◌≡◌, ℕ, ◌≤◌, ◌⊎◌, true, false, List, All}
-use Rattle.ja_base.specs.Literals.{bit}
+use Rattle.std.specs.Prelude.{◌≡◌, ℕ, ◌≤◌, true, false, List, All}
 use Rattle.aig_model.specs.Netlist.{circuit}
 use Rattle.aig_model.specs.Task.{VerificationTask, problem}
 use Rattle.ja_project.specs.Latches.{is_foreign}
@@ -22,7 +21,7 @@ pub record IsWaiting (t : VerificationTask) (p top : ℕ) (o : Obligation) : Typ
 abbrev pub AreWaiting : VerificationTask → ℕ → ℕ → List Obligation → Type 0
 AreWaiting t p top waiting = All (IsWaiting t p top) waiting
 
--- A failure that a search for p may end with: of p, or of an assumed property that its trace broke first.
+-- a failure that a search for p ends with
 pub record IsFailureFor (t : VerificationTask) (p : ℕ) (failure : FoundFailure) : Type 0 where
   pub task : failure.task ≡ t
-  pub prop : (failure.prop ≡ p) ⊎ (bit t.expected failure.prop ≡ true)
+  pub prop : failure.prop ≡ p

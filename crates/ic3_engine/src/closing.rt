@@ -10,6 +10,7 @@ ghost use Rattle.ic3_query.specs.Endings.{IsCharged, OnStopped};
 ghost use Rattle.ic3_query.specs.Known.{all_of};
 ghost use Rattle.ic3_query.specs.Questions.{IsRoom};
 ghost use Rattle.ic3_engine.specs.Climbing.{IsEngine};
+ghost use Rattle.ic3_engine.specs.Found.{IsProvedFor};
 ghost use Rattle.ic3_engine.specs.Turns.{state};
 
 use crate::proved::ProvedList;
@@ -22,19 +23,23 @@ use sat_plain::Sat;
 use std::alloc::Global;
 
 /// The closed list that covers the property, with nothing left out of it that is known.
-fn proved_by(alloc: Global, coded: &Coded, prop: u32, known: &Known) -> Result<ProvedList, Memory>
-    requires task { known.now.task ≡ coded.now }
+pub(crate) fn proved_by(
+    alloc: Global,
+    coded: &Coded,
+    prop: u32,
+    known: &Known,
+) -> Result<ProvedList, Memory>
+    requires task { problem known.now.task ≡ problem coded.now }
     requires own { known.now.own ≡ [] }
     requires covers { Covers (circuit coded.now.design) (all_of known.now) prop }
-    ensures task { IfOk result (λ proved. problem proved.list.task ≡ problem coded.now) }
-    ensures prop { IfOk result (λ proved. proved.prop ≡ prop) }
+    ensures { IfOk result (IsProvedFor coded.now prop) }
 {
     let list = known.list().copy(alloc)?;
     Ok(ProvedList { list, prop })
 }
 
 /// The clauses that have no proof yet become part of the closed list, which then covers the property.
-pub(crate) fn give<S: Sat, F: Flag>(
+pub(crate) fn give<S: Sat, L: Sat, F: Flag>(
     alloc: Global,
     coded: &Coded,
     prop: u32,
@@ -50,14 +55,13 @@ pub(crate) fn give<S: Sat, F: Flag>(
         z.new.queue (S.count z.new.solver) (S.added z.new.solver))) }
     ensures room { IsRoom coded.now.design z.new.room.row z.new.room.vals }
     ensures known { problem z.new.known.task ≡ problem coded.now }
-    ensures task { IfOk result (λ proved. problem proved.list.task ≡ problem coded.now) }
-    ensures prop { IfOk result (λ proved. proved.prop ≡ prop) }
+    ensures proved { IfOk result (IsProvedFor coded.now prop) }
     ensures charged { IsCharged meter.old meter.new result }
     ensures later { IsLater meter.old meter.new }
     ensures stopped { OnStopped result (IsFoundRaised F.may_rise F.raised flag.old flag.new) }
     ensures flag { IsPolled F.may_rise F.raised flag.old flag.new }
 {
-    z.known.close::<S, F>(alloc, coded, meter, flag)?;
+    z.known.close::<L, F>(alloc, coded, meter, flag)?;
     let proved = proved_by(alloc, coded, prop, &z.known)?;
     Ok(proved)
 }

@@ -12,19 +12,27 @@ mod fixing;
 mod found;
 mod general;
 mod good;
+mod learning;
+mod local;
 mod outcome;
+mod own;
 mod proved;
 mod putting;
 mod raising;
 mod search;
 mod seeking;
 mod settling;
+mod share;
 mod starting;
 #[cfg(test)]
 mod tests;
 mod turn;
+mod viewing;
 
 pub use engine::{Engine, prove};
 pub use found::Found;
+pub use learning::learn;
+pub use local::{LocalAnswer, prove_local};
 pub use proved::ProvedList;
 pub use search::Search;
+pub use share::{NoShare, Share};

@@ -1,11 +1,12 @@
 //! The worked designs on one engine each: with the properties in order and in reverse.
 
 ghost use Rattle.std.specs.Prelude.{◌≡◌, ◌<◌, length, IfOk, IfSome};
+ghost use Rattle.aig_model.specs.Task.{problem};
 ghost use Rattle.ic3_query.specs.Questions.{IsRoom};
 ghost use Rattle.ic3_engine.specs.Engines.{IsReady};
 ghost use Rattle.ic3_engine.specs.Turns.{state};
 
-use crate::{Engine, Found, prove};
+use crate::{Engine, Found, LocalAnswer, NoShare, prove, prove_local};
 use aig_model::{Expect, Task};
 use aiger_ascii::read_ascii;
 use ic3_query::Halt;
@@ -102,7 +103,7 @@ fn coded(alloc: Global, text: &[u8], failing: [bool; 3]) -> Option<Coded> {
 fn engine<S: Probe>(alloc: Global, coded: &Coded) -> Result<Engine<S>, Memory>
     ensures ready { IfOk result (λ engine. IsReady coded.now (state engine.search.known
         engine.search.frames engine.search.queue (S.count engine.search.solver)
-        (S.added engine.search.solver)) engine.table engine.live) }
+        (S.added engine.search.solver)) engine.table engine.failed engine.live) }
     ensures room { IfOk result (λ engine.
         IsRoom coded.now.design engine.search.room.row engine.search.room.vals) }
 {
@@ -135,16 +136,16 @@ fn outcome<S: Probe, F: Flag>(
     requires within { prop < length coded.now.design.bads }
     requires ready { IsReady coded.now (state engine.old.search.known engine.old.search.frames
         engine.old.search.queue (S.count engine.old.search.solver)
-        (S.added engine.old.search.solver)) engine.old.table engine.old.live }
+        (S.added engine.old.search.solver)) engine.old.table engine.old.failed engine.old.live }
     requires room { IsRoom coded.now.design engine.old.search.room.row
         engine.old.search.room.vals }
     ensures ready { IsReady coded.now (state engine.new.search.known engine.new.search.frames
         engine.new.search.queue (S.count engine.new.search.solver)
-        (S.added engine.new.search.solver)) engine.new.table engine.new.live }
+        (S.added engine.new.search.solver)) engine.new.table engine.new.failed engine.new.live }
     ensures room { IsRoom coded.now.design engine.new.search.room.row
         engine.new.search.room.vals }
 {
-    match prove(alloc, coded, prop, engine, meter, flag) {
+    match prove::<S, S, F>(alloc, coded, prop, engine, meter, flag) {
         Ok(found) => mark_of(&found, prop),
         Err(halt) => Mark::Halted(halt),
     }
@@ -170,6 +171,45 @@ fn are_marked<S: Probe>(
     Ok(true)
 }
 
+/// What comes of the property alone, with nothing known and nobody to share with.
+fn mark_alone<S: Probe, F: Flag>(
+    alloc: Global,
+    coded: &Coded,
+    prop: u32,
+    view: &Closed,
+    meter: &mut Meter,
+    flag: &mut F,
+) -> Result<Mark, Memory>
+    requires within { prop < length coded.now.design.bads }
+    requires view { problem view.now.task ≡ problem coded.now }
+{
+    let mut share = NoShare::new(coded.task().share()?);
+    match prove_local::<S, S, F, NoShare>(alloc, coded, prop, view, meter, flag, &mut share) {
+        LocalAnswer::Proved(_) => Ok(Proved),
+        LocalAnswer::Fails(_) => Ok(Fails),
+        LocalAnswer::Spent => Ok(Mark::Halted(Halt::Spent)),
+        LocalAnswer::Stopped => Ok(Mark::Halted(Halt::Stopped)),
+        LocalAnswer::Memory => Err(Memory),
+    }
+}
+
+/// Whether the properties come out so, each by itself.
+fn are_marked_alone<S: Probe>(
+    alloc: Global,
+    coded: &Coded,
+    expected: &[Mark],
+) -> Result<bool, Memory> {
+    let view = Closed::empty(alloc, coded.task())?;
+    for prop in 0..coded.task().design().props() {
+        let mut meter = Meter::new(None);
+        let found = mark_alone::<S, NoFlag>(alloc, coded, prop, &view, &mut meter, &mut NoFlag)?;
+        if expected.get(prop as usize) != Some(&found) {
+            return Ok(false);
+        }
+    }
+    Ok(true)
+}
+
 #[test]
 fn marks_worked_designs(rt: HostRuntime) -> Result<(), Fail> {
     let alloc = rt.alloc();
@@ -182,6 +222,10 @@ fn marks_worked_designs(rt: HostRuntime) -> Result<(), Fail> {
         assert!(rt;
             are_marked::<PlainSat>(alloc, &coded, true, expected)?,
             "{number} reversed"
+        );
+        assert!(rt;
+            are_marked_alone::<PlainSat>(alloc, &coded, expected)?,
+            "{number} alone"
         );
     }
     Ok(())
@@ -210,6 +254,39 @@ fn goes_on_behind_a_halt(rt: HostRuntime) -> Result<(), Fail> {
         let mut meter = Meter::new(None);
         let proved = outcome(alloc, &coded, 0, &mut engine, &mut meter, &mut NoFlag);
         assert_eq!(rt; proved, Proved);
+    }
+    Ok(())
+}
+
+// A list that covers the property is found to do so by one question, whose only conflict is the last.
+#[test]
+fn ends_where_the_list_covers(rt: HostRuntime) -> Result<(), Fail> {
+    let alloc = rt.alloc();
+    let coded = coded(alloc, RING, [false; 3]).ok_or("no design")?;
+    let mut engine: Engine<PlainSat> = engine(alloc, &coded)?;
+    if coded.task().design().props() == 3 {
+        let mut meter = Meter::new(None);
+        let found = prove::<PlainSat, PlainSat, NoFlag>(
+            alloc,
+            &coded,
+            0,
+            &mut engine,
+            &mut meter,
+            &mut NoFlag,
+        );
+        let Ok(Found::Proved(proved)) = found else {
+            return Err("not proved".into());
+        };
+        let mut units = Meter::new(None);
+        let again = mark_alone::<PlainSat, NoFlag>(
+            alloc,
+            &coded,
+            0,
+            &proved.list,
+            &mut units,
+            &mut NoFlag,
+        )?;
+        assert_eq!(rt; (again, units.units()), (Proved, 2));
     }
     Ok(())
 }

@@ -1,6 +1,5 @@
-use Rattle.std.proofs.Common.{List, ℕ, ◌+◌, ◌-◌, ◌≡◌, sym, ap, ◌∙◌, subst, refl, arith}
-use Rattle.aig_model.specs.Netlist.{circuit}
-use Rattle.aig_model.specs.Task.{VerificationTask, problem}
+use Rattle.std.proofs.Common.{◌-◌, sym, ap, ◌∙◌, subst, arith}
+use Rattle.aig_model.specs.Task.{problem}
 use Rattle.ic3_query.specs.Known.{KnownList, all_of}
 use Rattle.ic3_query.specs.Questions.{IsGoodFrom}
 use Rattle.ic3_engine.specs.Turns.{state}

@@ -1,4 +1,4 @@
-use Rattle.std.proofs.Common.{ap, ◌∙◌}
+use Rattle.std.proofs.Common.{ap}
 use Rattle.aig_model.specs.Task.{problem}
 use Rattle.ic3_query.specs.Known.{KnownList}
 use Rattle.ic3_engine.proofs.CloseLemmas.{covers_closed, engine_closed}

@@ -4,7 +4,6 @@ use Rattle.ja_base.specs.Invariants.{Covers}
 use Rattle.aig_model.specs.Netlist.{circuit}
 use Rattle.aig_model.specs.Task.{problem}
 use Rattle.ja_project.specs.Latches.{is_foreign}
-use Rattle.ic3_frames.specs.Levels.{at_level}
 use Rattle.ic3_query.specs.Known.{AreOwn, IsKnown, all_of}
 use Rattle.ic3_engine.proofs.FixLemmas.{extended_is, fixed_covers, fixed_is_raised, fixed_known, level_each}
 use Rattle.ic3_engine.proofs.fixing.fix.Goals as goal

@@ -1,5 +1,4 @@
-use Rattle.std.proofs.Common.{ap, ◌∙◌, subst}
-use Rattle.ic3_frames.specs.Levels.{Entry}
+use Rattle.std.proofs.Common.{ap, ◌∙◌}
 use Rattle.ic3_engine.specs.Putting.{put_at}
 use Rattle.ic3_engine.proofs.PutLemmas.{put_step}
 use Rattle.ic3_engine.proofs.putting.put_closed.Goals as goal

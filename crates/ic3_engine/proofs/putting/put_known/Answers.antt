@@ -1,5 +1,4 @@
 use Rattle.std.proofs.Common.{List, ℕ, sym, ap, ◌∙◌}
-use Rattle.ic3_frames.specs.Levels.{Entry}
 use Rattle.inv_cert.specs.Closed.{ClosedList}
 use Rattle.ic3_engine.specs.Putting.{put_all}
 use Rattle.ic3_engine.proofs.PutLemmas.{put_all_append}

@@ -1,5 +1,4 @@
 use Rattle.std.proofs.Common.{◌≡◌, List, ℕ, false, subst, sym}
-use Rattle.std.proofs.lemmas.Option.{same_Some}
 use Rattle.ja_project.specs.Latches.{is_foreign}
 use Rattle.aig_model.specs.Netlist.{circuit}
 use Rattle.ic3_frames.specs.Levels.{Entry}

@@ -1,4 +1,4 @@
-use Rattle.std.proofs.Common.{sym, ap, ◌∙◌, ◌+◌, subst, [], ◌≡◌}
+use Rattle.std.proofs.Common.{ap, ◌∙◌, ◌+◌, subst}
 use Rattle.ja_base.specs.Circuit.{Problem}
 use Rattle.ic3_frames.specs.Levels.{Levels}
 use Rattle.ic3_query.specs.Known.{IsKnown, all_of}

@@ -8,6 +8,6 @@ invariant-loop-at g l = record {
   ready : IsReady l.coded
       (state l.engine.search.known l.engine.search.frames l.engine.search.queue (g.S.Sat.count l.engine.search.solver)
       (g.S.Sat.added l.engine.search.solver))
-      l.engine.table l.engine.live;
+      l.engine.table l.engine.failed l.engine.live;
   room : IsRoom l.coded.design l.engine.search.room.row l.engine.search.room.vals;
 }

@@ -1,4 +1,3 @@
-use Rattle.ic3_query.specs.Questions.{AnswersFor}
 use Rattle.ic3_engine.proofs.TurnLemmas.{lowering_is_turn}
 use Rattle.ic3_engine.proofs.turn.at_level.Goals as goal
 

@@ -1,4 +1,4 @@
-use Rattle.std.proofs.Common.{List, ℕ, sym, ◌∙◌, subst}
+use Rattle.std.proofs.Common.{ℕ, sym, ◌∙◌, subst}
 use Rattle.ic3_engine.specs.Waiting.{AreWaiting, IsWaiting}
 use Rattle.ic3_engine.proofs.LevelLemmas.{part_is_free}
 use Rattle.ic3_engine.proofs.TurnLemmas.{part_is_free_at_top}

@@ -1,4 +1,4 @@
-use Rattle.std.proofs.Common.{List, ℕ, ◌+◌, sym, subst}
+use Rattle.std.proofs.Common.{◌+◌, sym, subst}
 use Rattle.ja_base.specs.Clauses.{IsBelow}
 use Rattle.aig_model.specs.Netlist.{Netlist}
 use Rattle.ja_project.proofs.ForeignLemmas.{own_is_below}
