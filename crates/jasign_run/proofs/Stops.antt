@@ -1,4 +1,4 @@
--- Where a file behind the first gives nothing, that is what `confirm` comes to.
+-- Where a file behind the first gives nothing, that is what the command comes to.
 use Rattle.std.proofs.Common.{◌≡◌, ℕ, ◌+◌, ◌≤◌, ◌⊎◌, ◌∙◌, inl, inr, List, Option, Some, None, refl, sym, arith}
 use Rattle.ja_base.specs.Runs.{Trace}
 use Rattle.ja_outside.specs.Faults.{Rose}
@@ -6,9 +6,9 @@ use Rattle.ja_outside.specs.Shelf.{Held}
 use Rattle.aig_model.specs.Netlist.{Netlist}
 use Rattle.jasign_run.specs.declared.outcome.Stop.{Stop}
 use Rattle.jasign_run.specs.declared.outcome.Stop.TheVariants.{DesignRefused, StimulusRefused, ExpectRefused, Usage, Outside, Memory}
-use Rattle.jasign_run.specs.Words.{Names}
+use Rattle.jasign_run.specs.Words.{Names, Order}
 use Rattle.jasign_run.specs.Files.{IsDesignFile, IsStimulusFile, FailsToRead, NoStimulus, NothingExpected, IsQuietStop}
-use Rattle.jasign_run.specs.Meaning.{StopsAtStimulus, StopsAtExpectations, StopsConfirm}
+use Rattle.jasign_run.specs.Meaning.{StopsAtStimulus, StopsAtExpectations, StopsConfirm, StopsBeforeSigning, StopsSign}
 
 -- a count that rose in the last part rose in the whole
 rose_before : (before between after : ℕ) → before ≤ between → Rose between after → Rose before after
@@ -61,6 +61,25 @@ stops_at_expectations held before between after names d prop m s earlier design 
     by_file (Some name) e (ExpectRefused refusal) refuses = at (ExpectRefused refusal) (rw e refuses)
     by_file (Some name) e Outside fails =
         inr (inr (at Outside (rw e (fails_before held before between after name earlier fails))))
+    by_file (Some name) e Memory wants = tt
+    by_file (Some name) e (DesignRefused refusal) wrong = absurd wrong
+    by_file (Some name) e (StimulusRefused refusal) wrong = absurd wrong
+    by_file (Some name) e Usage wrong = absurd wrong
+
+pub stops_before_signing : (held : Held) (before between after : ℕ) (order : Order) (d : Netlist) (s : Stop)
+    → before ≤ between → IsDesignFile held order.design d → NothingExpected held between after order.expect d s
+    → StopsSign held before after order s
+stops_before_signing held before between after order d s earlier design nothing = by_file order.expect refl s nothing
+  where
+    at : (s : Stop) → NothingExpected held before after order.expect d s → StopsBeforeSigning held before after order s
+    at s stops = record { netlist = d; design_file = design; stops = stops }
+
+    by_file : (expect : Option (List ℕ)) → order.expect ≡ expect → (s : Stop) → NothingExpected held between after expect d s
+        → StopsSign held before after order s
+    by_file None e s wants = rw wants tt
+    by_file (Some name) e (ExpectRefused refusal) refuses = at (ExpectRefused refusal) (rw e refuses)
+    by_file (Some name) e Outside fails =
+        inr (at Outside (rw e (fails_before held before between after name earlier fails)))
     by_file (Some name) e Memory wants = tt
     by_file (Some name) e (DesignRefused refusal) wrong = absurd wrong
     by_file (Some name) e (StimulusRefused refusal) wrong = absurd wrong

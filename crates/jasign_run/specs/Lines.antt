@@ -1,4 +1,4 @@
--- The line that each outcome writes, and its status.
+-- The text that each outcome writes, its status, and the report that it gives.
 use Rattle.std.specs.Prelude.{ℕ, Option, Some, None, List, [], ◌∷◌, ◌++◌, codes, decimal}
 use Rattle.aiger_lines.specs.declared.refusal.Large.{Large}
 use Rattle.aiger_lines.specs.declared.refusal.Large.TheVariants.{File, Vars, Props, Lines}
@@ -10,8 +10,12 @@ use Rattle.local_stim.specs.declared.refusal.StimRefusal.{StimRefusal}
 use Rattle.local_stim.specs.declared.refusal.StimRefusal.TheVariants as stimulus
 use Rattle.local_stim.specs.declared.verdict.Confirm.{Confirm}
 use Rattle.local_stim.specs.declared.verdict.Confirm.TheVariants.{Local, NotInitial, Constraint, NotBad, Assumed}
+use Rattle.debug_set.specs.Verdicts.{status_of}
+use Rattle.report.specs.Findings.{Findings, marks_of}
+use Rattle.report.specs.Reports.{report_text}
+use Rattle.sign_task.specs.Sections.{assumed_of}
 use Rattle.jasign_run.specs.declared.outcome.Outcome.{Outcome}
-use Rattle.jasign_run.specs.declared.outcome.Outcome.TheVariants.{Replayed, Stopped}
+use Rattle.jasign_run.specs.declared.outcome.Outcome.TheVariants.{Replayed, Signed, Stopped}
 use Rattle.jasign_run.specs.declared.outcome.Stop.{Stop}
 use Rattle.jasign_run.specs.declared.outcome.Stop.TheVariants.{DesignRefused, StimulusRefused, ExpectRefused, Usage, Outside, Memory}
 
@@ -98,20 +102,16 @@ stop_rest Usage = ([], None)
 stop_rest Outside = ([], None)
 stop_rest Memory = ([], None)
 
--- each line is two phrases; this is the first
-abbrev pub head_phrase : Outcome → Phrase
-head_phrase (Replayed verdict prop steps) = verdict_head verdict prop
-head_phrase (Stopped stop) = stop_head stop
+-- a line of two phrases, with its LF
+abbrev pub line_text : Phrase → Phrase → List ℕ
+line_text head rest = phrase_text head ++ phrase_text rest ++ 10 ∷ []
 
--- and this the second
-abbrev pub rest_phrase : Outcome → Phrase
-rest_phrase (Replayed verdict prop steps) = verdict_rest verdict steps
-rest_phrase (Stopped stop) = stop_rest stop
-
--- the outcome's line, with its LF
-abbrev pub outcome_line : Outcome → List ℕ
-outcome_line outcome = phrase_text (head_phrase outcome) ++ phrase_text (rest_phrase outcome)
-    ++ 10 ∷ []
+-- what the outcome writes: a line, or the text of a report
+abbrev pub outcome_text : Outcome → List ℕ
+outcome_text (Replayed verdict prop steps) =
+    line_text (verdict_head verdict prop) (verdict_rest verdict steps)
+outcome_text (Signed report) = report_text report
+outcome_text (Stopped stop) = line_text (stop_head stop) (stop_rest stop)
 
 -- 0 where a stimulus is a local failure, and 1 where it is not
 abbrev pub verdict_status : Confirm → ℕ
@@ -130,7 +130,18 @@ stop_status Usage = 4
 stop_status Outside = 5
 stop_status Memory = 6
 
+-- the status of a report: that of its marks against what its lines expected
+abbrev pub report_status : Findings → ℕ
+report_status report = status_of (assumed_of report.lines) (marks_of report.lines)
+
 -- the outcome's status
 abbrev pub outcome_status : Outcome → ℕ
 outcome_status (Replayed verdict prop steps) = verdict_status verdict
+outcome_status (Signed report) = report_status report
 outcome_status (Stopped stop) = stop_status stop
+
+-- the report that is handed back with the outcome: that of a sign-off
+abbrev pub outcome_report : Outcome → Option Findings
+outcome_report (Replayed verdict prop steps) = None
+outcome_report (Signed report) = Some report
+outcome_report (Stopped stop) = None

@@ -10,13 +10,15 @@ use Rattle.aig_model.specs.Netlist.{Netlist}
 use Rattle.aig_model.specs.Task.{VerificationTask, problem}
 use Rattle.local_stim.specs.Verdict.{IsVerdict}
 use Rattle.local_stim.specs.declared.verdict.Confirm.{Confirm}
+use Rattle.report.specs.Findings.{Findings}
+use Rattle.sign_task.specs.SignOff.{IsSignOff}
 use Rattle.jasign_run.specs.declared.outcome.Outcome.{Outcome}
-use Rattle.jasign_run.specs.declared.outcome.Outcome.TheVariants.{Replayed, Stopped}
+use Rattle.jasign_run.specs.declared.outcome.Outcome.TheVariants.{Replayed, Signed, Stopped}
 use Rattle.jasign_run.specs.declared.outcome.Stop.{Stop}
 use Rattle.jasign_run.specs.declared.outcome.Stop.TheVariants.{DesignRefused, StimulusRefused, ExpectRefused, Usage, Outside, Memory}
 use Rattle.jasign_run.specs.Files.{IsDesignFile, NoDesign, IsStimulusFile, NoStimulus, IsExpected, NothingExpected, IsQuietStop}
-use Rattle.jasign_run.specs.Lines.{outcome_line, outcome_status}
-use Rattle.jasign_run.specs.Words.{Names, confirm_names}
+use Rattle.jasign_run.specs.Lines.{outcome_text, outcome_status}
+use Rattle.jasign_run.specs.Words.{Names, Order, Command, ToConfirm, ToSign, command_of}
 
 -- the task of a design with what is expected
 abbrev pub task_of : Netlist → List Bool → VerificationTask
@@ -69,11 +71,52 @@ StopsConfirm held before after names Usage = ⊥
 abbrev pub Confirms : Held → ℕ → ℕ → Names → Outcome → Type 0
 Confirms held before after names (Replayed verdict prop steps) =
     Replays held names verdict prop steps
+Confirms held before after names (Signed report) = ⊥
 Confirms held before after names (Stopped stop) = StopsConfirm held before after names stop
+
+-- the files were accepted, and the report is that of a sign-off of their task
+pub record SignsOff (held : Held) (order : Order) (report : Findings) : Type 0 where
+  pub netlist : Netlist
+  pub expected : List Bool
+  pub design_file : IsDesignFile held order.design netlist
+  pub expected_is : IsExpected held order.expect netlist expected
+  pub signed : IsSignOff (task_of netlist expected) order.budget report
+
+-- the design was accepted, and the file of expectations gives none
+pub record StopsBeforeSigning (held : Held) (before after : ℕ) (order : Order)
+    (stop : Stop) : Type 0 where
+  pub netlist : Netlist
+  pub design_file : IsDesignFile held order.design netlist
+  pub stops : NothingExpected held before after order.expect netlist stop
+
+-- Why `sign` does not come to a report. The design is read and accepted before the expectations are selected.
+abbrev pub StopsSign : Held → ℕ → ℕ → Order → Stop → Type 0
+StopsSign held before after order (DesignRefused refusal) =
+    NoDesign held before after order.design (DesignRefused refusal)
+StopsSign held before after order (ExpectRefused refusal) =
+    StopsBeforeSigning held before after order (ExpectRefused refusal)
+StopsSign held before after order Outside =
+    NoDesign held before after order.design Outside
+    ⊎ StopsBeforeSigning held before after order Outside
+StopsSign held before after order Memory = ⊤
+StopsSign held before after order (StimulusRefused refusal) = ⊥
+StopsSign held before after order Usage = ⊥
+
+-- what `sign` comes to
+abbrev pub Signs : Held → ℕ → ℕ → Order → Outcome → Type 0
+Signs held before after order (Replayed verdict prop steps) = ⊥
+Signs held before after order (Signed report) = SignsOff held order report
+Signs held before after order (Stopped stop) = StopsSign held before after order stop
+
+-- what a command comes to
+abbrev pub Does : Held → ℕ → ℕ → Outcome → Command → Type 0
+Does held before after outcome (ToConfirm names) = Confirms held before after names outcome
+Does held before after outcome (ToSign order) = Signs held before after order outcome
 
 -- the words are in no command's form
 abbrev pub IsUsage : Outcome → Type 0
 IsUsage (Replayed verdict prop steps) = ⊥
+IsUsage (Signed report) = ⊥
 IsUsage (Stopped Usage) = ⊤
 IsUsage (Stopped Memory) = ⊤
 IsUsage (Stopped (DesignRefused refusal)) = ⊥
@@ -84,23 +127,22 @@ IsUsage (Stopped Outside) = ⊥
 -- what a run comes to, by its words
 abbrev pub Means : Held → ℕ → ℕ → List (List ℕ) → Outcome → Type 0
 Means held before after words outcome =
-    MatchOption (confirm_names words) (IsUsage outcome)
-    (λ names. Confirms held before after names outcome)
+    MatchOption (command_of words) (IsUsage outcome) (Does held before after outcome)
 
 -- no call on the shelf failed, unless the run stops for that reason or for want of memory
 abbrev pub IsQuiet : ℕ → ℕ → Outcome → Type 0
 IsQuiet before after (Replayed verdict prop steps) = after ≡ before
+IsQuiet before after (Signed report) = after ≡ before
 IsQuiet before after (Stopped stop) = IsQuietStop before after stop
 
--- A line was written with no fault, and the status is this one; or the sink failed, a part of the line stands, and the status is
--- 5.
+-- The text was written with no fault, and the status is this one; or the sink failed, a part of it stands, and the status is 5.
 abbrev pub Writes : List ℕ → ℕ → ℕ → Option (List ℕ) → Option (List ℕ) → ℕ → ℕ → Type 0
-Writes line status result before after faults_before faults_after =
-    ((result ≡ status) × Appends before after line × (faults_after ≡ faults_before))
-    ⊎ ((result ≡ 5) × AppendsPart before after line × Rose faults_before faults_after)
+Writes text status result before after faults_before faults_after =
+    ((result ≡ status) × Appends before after text × (faults_after ≡ faults_before))
+    ⊎ ((result ≡ 5) × AppendsPart before after text × Rose faults_before faults_after)
 
--- the outcome's line and its status
+-- the outcome's text and its status
 abbrev pub Ends : Outcome → ℕ → Option (List ℕ) → Option (List ℕ) → ℕ → ℕ → Type 0
 Ends outcome result before after faults_before faults_after =
-    Writes (outcome_line outcome) (outcome_status outcome) result before after faults_before
+    Writes (outcome_text outcome) (outcome_status outcome) result before after faults_before
     faults_after

@@ -101,5 +101,5 @@ pub fn confirm_run<F: Shelf, K: Sink>(
         expect,
     };
     let outcome = outcome_of(alloc, names, shelf);
-    finish(alloc, &outcome, out)
+    finish(alloc, outcome, out).status
 }

@@ -1,5 +1,5 @@
 //! The one public call that the program makes. What a run means is in `specs/Meaning`, what its files give in
-//! `specs/Files`, and the lines that it writes are in `specs/Lines`.
+//! `specs/Files`, and the texts that it writes are in `specs/Lines`.
 #![tactic(auto)]
 
 mod confirm;
@@ -9,14 +9,22 @@ mod files;
 mod lines;
 mod outcome;
 mod run;
+mod sign;
+mod verdicts;
 mod words;
 
 pub use confirm::confirm_run;
 pub use ending::memory_run;
-pub use outcome::{Outcome, Stop};
-pub use run::{Ran, jasign_run};
+pub use outcome::{Outcome, Ran, Stop};
+pub use run::jasign_run;
 
 #[cfg(test)]
+mod report_tests;
+#[cfg(test)]
 mod rows;
+#[cfg(test)]
+mod sign_rows;
+#[cfg(test)]
+mod sign_tests;
 #[cfg(test)]
 mod tests;

@@ -1,7 +1,8 @@
-//! The lines that are written: a table of words for each kind of answer.
+//! The texts that are written: a table of words for each kind of line, and the report's own text.
 
 ghost use Rattle.std.specs.Prelude.{◌≡◌, ℕ, ◌∷◌, [], ◌++◌, IfOk, OnOk};
-ghost use Rattle.jasign_run.specs.Lines.{phrase_text, verdict_head, verdict_rest, large_words, design_phrase, stimulus_phrase, expect_phrase, stop_head, stop_rest, head_phrase, rest_phrase, outcome_line};
+ghost use Rattle.report.specs.Reports.{report_text};
+ghost use Rattle.jasign_run.specs.Lines.{phrase_text, verdict_head, verdict_rest, large_words, design_phrase, stimulus_phrase, expect_phrase, stop_head, stop_rest, line_text, outcome_text};
 
 use crate::outcome::{Outcome, Stop};
 use aiger_lines::{Large, ReadRefusal};
@@ -9,6 +10,7 @@ use expect_file::ExpectRefusal;
 use ja_base::Memory;
 use ja_text::Text;
 use local_stim::{Confirm, StimRefusal};
+use report::{Report, text_of};
 use std::alloc::Global;
 
 /// Words, and a number behind them or none.
@@ -138,24 +140,6 @@ fn stop_rest(stop: &Stop) -> Phrase
     }
 }
 
-fn head_phrase(outcome: &Outcome) -> Phrase
-    ensures { (result.words.now, result.number) ≡ head_phrase outcome.now }
-{
-    match outcome {
-        Outcome::Replayed { verdict, prop, .. } => verdict_head(*verdict, *prop),
-        Outcome::Stopped(stop) => stop_head(stop),
-    }
-}
-
-fn rest_phrase(outcome: &Outcome) -> Phrase
-    ensures { (result.words.now, result.number) ≡ rest_phrase outcome.now }
-{
-    match outcome {
-        Outcome::Replayed { verdict, steps, .. } => verdict_rest(*verdict, *steps),
-        Outcome::Stopped(stop) => stop_rest(stop),
-    }
-}
-
 fn push_phrase(text: &mut Text, phrase: &Phrase) -> Result<(), Memory>
     ensures { OnOk result (text.new ≡ text.old
         ++ phrase_text (phrase.now.words.now, phrase.now.number)) }
@@ -167,15 +151,51 @@ fn push_phrase(text: &mut Text, phrase: &Phrase) -> Result<(), Memory>
     Ok(())
 }
 
-/// The outcome's line, with its LF.
-pub fn line_of(alloc: Global, outcome: &Outcome) -> Result<Text, Memory>
-    ensures { IfOk result (λ text. text ≡ outcome_line outcome.now) }
+/// A line of two phrases, with its LF.
+fn line_of(alloc: Global, head: &Phrase, rest: &Phrase) -> Result<Text, Memory>
+    ensures { IfOk result (λ text. text ≡ line_text (head.now.words.now, head.now.number)
+        (rest.now.words.now, rest.now.number)) }
 {
     let mut text = Text::new(alloc);
-    let head = head_phrase(outcome);
-    push_phrase(&mut text, &head)?;
-    let rest = rest_phrase(outcome);
-    push_phrase(&mut text, &rest)?;
+    push_phrase(&mut text, head)?;
+    push_phrase(&mut text, rest)?;
     text.push(b"\n")?;
     Ok(text)
+}
+
+fn verdict_line(alloc: Global, verdict: Confirm, prop: u32, steps: u32) -> Result<Text, Memory>
+    ensures { IfOk result
+        (λ text. text ≡ line_text (verdict_head verdict prop) (verdict_rest verdict steps)) }
+{
+    let (head, rest) = (verdict_head(verdict, prop), verdict_rest(verdict, steps));
+    line_of(alloc, &head, &rest)
+}
+
+fn stop_line(alloc: Global, stop: &Stop) -> Result<Text, Memory>
+    ensures { IfOk result (λ text. text ≡ line_text (stop_head stop.now) (stop_rest stop.now)) }
+{
+    let (head, rest) = (stop_head(stop), stop_rest(stop));
+    line_of(alloc, &head, &rest)
+}
+
+fn report_text(alloc: Global, report: &Report) -> Result<Text, Memory>
+    ensures { IfOk result (λ text. text ≡ report_text report.now) }
+{
+    let text = text_of(alloc, report)?;
+    Ok(text)
+}
+
+/// What the outcome writes, in one buffer.
+pub fn outcome_text(alloc: Global, outcome: &Outcome) -> Result<Text, Memory>
+    ensures { IfOk result (λ text. text ≡ outcome_text outcome.now) }
+{
+    match outcome {
+        Outcome::Replayed {
+            verdict,
+            prop,
+            steps,
+        } => verdict_line(alloc, *verdict, *prop, *steps),
+        Outcome::Signed(report) => report_text(alloc, report),
+        Outcome::Stopped(stop) => stop_line(alloc, stop),
+    }
 }

@@ -3,6 +3,7 @@
 use aiger_lines::ReadRefusal;
 use expect_file::ExpectRefusal;
 use local_stim::{Confirm, StimRefusal};
+use report::Report;
 
 /// Why there is no result.
 #[derive(Clone, Copy, Debug, PartialEq, Eq)]
@@ -18,8 +19,8 @@ pub enum Stop {
     Memory,
 }
 
-/// What a run comes to, before its line is written.
-#[derive(Clone, Copy, Debug, PartialEq, Eq)]
+/// What a run comes to, before its text is written.
+#[derive(Debug, Drop)]
 pub enum Outcome {
     /// The stimulus of property `prop`, which has so many steps, was replayed.
     Replayed {
@@ -27,5 +28,16 @@ pub enum Outcome {
         prop: u32,
         steps: u32,
     },
+    /// All properties were signed off in one report.
+    Signed(Report),
     Stopped(Stop),
+}
+
+/// What a run answers.
+#[derive(Debug, Drop)]
+pub struct Ran {
+    /// 0 to 6, as the command's table of statuses says.
+    pub status: u8,
+    /// The report of a sign-off, also where its text could not be written.
+    pub report: Option<Report>,
 }

@@ -9,7 +9,7 @@ use ja_outside::{MemShelf, MemSink};
 use std::alloc::{AllocError, Global};
 use std::test::Fail;
 
-fn shelf_of(
+pub(crate) fn shelf_of(
     alloc: Global,
     held: &[&[u8]],
     piece: usize,
@@ -27,7 +27,7 @@ fn shelf_of(
     Ok(MemShelf::new(files, piece, fails))
 }
 
-fn words_of(alloc: Global, words: &[&str]) -> Result<Vec<String>, AllocError> {
+pub(crate) fn words_of(alloc: Global, words: &[&str]) -> Result<Vec<String>, AllocError> {
     let mut all = Vec::new(alloc);
     for word in words {
         all.push(String::from_str(alloc, word)?)?;

@@ -1,7 +1,10 @@
 //! The words of a command line, without the program's name.
 
 ghost use Rattle.std.specs.Prelude.{◌≡◌, map, option_map, string_bytes};
-ghost use Rattle.jasign_run.specs.Words.{confirm_names, is_confirm, is_option};
+ghost use Rattle.jasign_run.specs.Words.{confirm_names, sign_order, is_confirm, is_sign, is_option};
+
+/// The units that may be spent on one property where the words name no limit.
+pub const PLAIN_BUDGET: u64 = 1_000_000_000_000;
 
 /// The names of `confirm DESIGN STIM [EXPECT]`.
 #[derive(Clone, Copy, Debug)]
@@ -9,6 +12,15 @@ pub struct Names<'a> {
     pub design: &'a str,
     pub stim: &'a str,
     pub expect: Option<&'a str>,
+}
+
+/// What `sign DESIGN [EXPECT]` is asked for.
+#[derive(Clone, Copy, Debug)]
+pub struct Order<'a> {
+    pub design: &'a str,
+    pub expect: Option<&'a str>,
+    /// The units that may be spent on one property, if there is a limit.
+    pub budget: Option<u64>,
 }
 
 fn is_option(word: &str) -> bool
@@ -26,8 +38,14 @@ fn is_confirm(word: &str) -> bool
     word == "confirm"
 }
 
+fn is_sign(word: &str) -> bool
+    ensures { result ≡ is_sign word.now }
+{
+    word == "sign"
+}
+
 /// None exactly where the words are not `confirm` and two or three words that do not begin with `-`.
-pub fn read_words(words: &[String]) -> Option<Names<'_>>
+pub fn confirm_names(words: &[String]) -> Option<Names<'_>>
     ensures { option_map
         (λ names. record {
           design = names.design.now;
@@ -57,6 +75,45 @@ pub fn read_words(words: &[String]) -> Option<Names<'_>>
                     design,
                     stim,
                     expect: Some(expect),
+                })
+            } else {
+                None
+            }
+        }
+        _ => None,
+    }
+}
+
+/// None exactly where the words are not `sign` and one or two words that do not begin with `-`.
+pub fn sign_order(words: &[String]) -> Option<Order<'_>>
+    ensures { option_map
+        (λ order. record {
+          design = order.design.now;
+          expect = option_map (λ x. x.now) order.expect;
+          budget = order.budget;
+        })
+        result ≡ sign_order (map string_bytes words.now) }
+{
+    match words {
+        [command, design] => {
+            let design = design.as_str();
+            if is_sign(command.as_str()) && !is_option(design) {
+                Some(Order {
+                    design,
+                    expect: None,
+                    budget: Some(PLAIN_BUDGET),
+                })
+            } else {
+                None
+            }
+        }
+        [command, design, expect] => {
+            let (design, expect) = (design.as_str(), expect.as_str());
+            if is_sign(command.as_str()) && !is_option(design) && !is_option(expect) {
+                Some(Order {
+                    design,
+                    expect: Some(expect),
+                    budget: Some(PLAIN_BUDGET),
                 })
             } else {
                 None
