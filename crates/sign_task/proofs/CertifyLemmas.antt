@@ -1,6 +1,6 @@
 -- A board with a mark for each property, and the report that is made of it, give what a sign-off promises.
-use Rattle.std.proofs.Common.{◌≡◌, ℕ, ◌+◌, ◌<◌, ◌↔◌, ◌⊎◌, ⊎_elim, Bool, true, false, Option, Some, None, List, [], ◌∷◌, length, map, slice_get, get_or, refl, sym, ap, subst, ◌∙◌, arith, IsTrue}
-use Rattle.std.specs.Prelude.{All, Contains, is_some}
+use Rattle.std.proofs.Common.{◌≡◌, ℕ, ◌+◌, ◌<◌, ⊎_elim, true, false, Option, Some, List, [], ◌∷◌, length, slice_get, get_or, refl, sym, ap, subst, ◌∙◌, arith, IsTrue}
+use Rattle.std.specs.Prelude.{All, Contains}
 use Rattle.std.proofs.lemmas.Bool.{cases_lt, false≢true}
 use Rattle.std.proofs.lemmas.List.{get_or_past, length-map}
 use Rattle.std.proofs.lemmas.Option.{slice_get-get_or}
@@ -8,9 +8,9 @@ use Rattle.std.proofs.lemmas.List.Elements.{All-contains, All-weaker, All-nil, A
 use Rattle.ja_base.specs.Literals.{bit}
 use Rattle.ja_base.specs.Budget.{sufficient_budget}
 use Rattle.ja_base.specs.Circuit.{Problem}
-use Rattle.ja_base.specs.Runs.{Trace, IsLocalFailure, FailsLocally, IsFirstBroken}
+use Rattle.ja_base.specs.Runs.{Trace, IsLocalFailure, FailsLocally}
 use Rattle.ja_base.specs.Invariants.{Covers, CoversAll, IsInductive}
-use Rattle.ja_base.specs.Failures.{Failure, IsShown, stimuli_of}
+use Rattle.ja_base.specs.Failures.{Failure, IsShown}
 use Rattle.aig_model.specs.Netlist.{circuit}
 use Rattle.aig_model.specs.Task.{VerificationTask, problem}
 use Rattle.inv_cert.proofs.InductionLemmas.{assumptions_discharge, reachable_meets, covered_never_fails, covered_never_breaks}
@@ -18,20 +18,19 @@ use Rattle.store_core.specs.declared.journal.Opening.{Opening}
 use Rattle.store_core.specs.declared.journal.Entry.{Entry}
 use Rattle.store_core.specs.declared.mark.Mark.{Mark}
 use Rattle.store_core.specs.declared.mark.Mark.TheVariants.{Proved, Fails, Budget, Cancelled}
-use Rattle.store_core.specs.MarkKinds.{is_proved, fails}
+use Rattle.store_core.specs.MarkKinds.{fails}
 use Rattle.store_core.specs.Steps.{State, mark_of}
 use Rattle.store_core.specs.History.{IsLegalHistory, board_after}
 use Rattle.store_core.specs.Boards.{IsBoard, evidence}
 use Rattle.store_core.specs.Marks.{IsGivenUp, IsJustified}
-use Rattle.debug_set.specs.Verdicts.{IsUnknown}
 use Rattle.debug_set.specs.FirstBreaks.{FirstBrokenIsNamed}
 use Rattle.report.specs.declared.parts.PropStim.{PropStim}
 use Rattle.report.specs.declared.parts.PropLine.{PropLine}
 use Rattle.report.specs.Findings.{Findings, marks_of}
 use Rattle.sign_task.specs.Openings.{evidence_of, failures_of}
-use Rattle.sign_task.specs.Sections.{HasFailures, HasInvariant, HasMark, HasProofs, assumed_of}
-use Rattle.sign_task.specs.Joint.{AllKnown, HasSet, IsDischarged, JoinsRightly}
-use Rattle.sign_task.specs.SignOff.{Certifies, HasCauses, HasJournal, IsRight}
+use Rattle.sign_task.specs.Sections.{HasMark, HasProofs}
+use Rattle.sign_task.specs.Joint.{AllKnown, HasSet, JoinsRightly}
+use Rattle.sign_task.specs.SignOff.{Certifies, HasJournal}
 use Rattle.sign_task.specs.Assembly.{IsAssembled, IsOneOf}
 use Rattle.sign_task.proofs.MarkLemmas.{mark_is, mark_stands, bit_is, proved_mark, failing_mark}
 use Rattle.sign_task.proofs.StimulusLemmas.{HasOne, has_one, stimulus_in}

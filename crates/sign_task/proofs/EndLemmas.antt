@@ -1,12 +1,10 @@
 -- A board that is over, and the report that is made of what it leaves.
-use Rattle.std.proofs.Common.{◌≡◌, ℕ, ◌<◌, ◌↔◌, Bool, false, Option, Some, List, [], length, map, slice_get, refl, sym, ap, subst, ◌∙◌, IsTrue, get_or}
-use Rattle.std.specs.Prelude.{All, IsSome}
+use Rattle.std.proofs.Common.{◌≡◌, ◌<◌, ◌↔◌, Bool, false, Option, Some, List, [], length, map, sym, ap, subst, ◌∙◌, IsTrue}
+use Rattle.std.specs.Prelude.{All}
 use Rattle.std.specs.List.Sorted.{IsStrictlyIncreasing}
-
-use Rattle.std.proofs.lemmas.List.Elements.{All-from_get_or}
 use Rattle.ja_base.specs.Budget.{sufficient_budget}
 use Rattle.ja_base.specs.Circuit.{Problem}
-use Rattle.aig_model.specs.Netlist.{IsSound, circuit}
+use Rattle.aig_model.specs.Netlist.{IsSound}
 use Rattle.aig_model.specs.Task.{VerificationTask, problem}
 use Rattle.inv_cert.specs.Closed.{ClosedList, IsClosed}
 use Rattle.local_stim.specs.Found.{FoundFailure}

@@ -1,6 +1,6 @@
 -- The report that is made of a board is in form.
-use Rattle.std.proofs.Common.{◌≡◌, ℕ, ◌+◌, ◌*◌, ◌<◌, ◌≤◌, Bool, true, false, Some, List, [], ◌∷◌, ◌++◌, length, map, refl, sym, ap, subst, ◌∙◌, arith, ⊎_elim, get_or}
-use Rattle.std.specs.Prelude.{All, Contains}
+use Rattle.std.proofs.Common.{◌≡◌, ℕ, ◌+◌, ◌*◌, ◌<◌, ◌≤◌, Bool, true, false, List, [], ◌∷◌, ◌++◌, length, refl, sym, ap, subst, ◌∙◌, arith, ⊎_elim, get_or}
+use Rattle.std.specs.Prelude.{All}
 use Rattle.std.specs.List.{AllByRecursion}
 use Rattle.std.specs.List.Sorted.{IsStrictlyIncreasing}
 use Rattle.std.proofs.lemmas.Bool.{cases_lt, false≢true}
@@ -16,16 +16,15 @@ use Rattle.aig_model.specs.Task.{VerificationTask, problem}
 use Rattle.ja_project.specs.Latches.{is_foreign}
 use Rattle.ja_project.proofs.ForeignLemmas.{is_over_at}
 use Rattle.ja_project.proofs.OverLemmas.{HasLatch-from_test}
-use Rattle.inv_cert.specs.Closed.{IsClosed}
 use Rattle.store_core.specs.declared.journal.Opening.{Opening}
 use Rattle.store_core.specs.declared.journal.Entry.{Entry}
 use Rattle.store_core.specs.Steps.{State}
 use Rattle.report.specs.declared.parts.PropLine.{PropLine}
 use Rattle.report.specs.declared.parts.PropStim.{PropStim}
 use Rattle.report.specs.declared.parts.Sizes.{Sizes}
-use Rattle.report.specs.Findings.{Findings, marks_of}
+use Rattle.report.specs.Findings.{Findings}
 use Rattle.report.specs.Reports.{HasWidths, IsReport, IsReportClause, IfShown, IsShownJournal}
-use Rattle.sign_task.specs.Sections.{sizes_of, assumed_of}
+use Rattle.sign_task.specs.Sections.{sizes_of}
 use Rattle.sign_task.proofs.CertifyLemmas.{IsEnd, all_local}
 
 -- a literal over a latch

@@ -1,5 +1,5 @@
 -- What settling a judgement changes, and that a failure of another property is seen once.
-use Rattle.std.proofs.Common.{◌≡◌, ℕ, zero, suc, ◌+◌, ◌<◌, ◌⊎◌, inl, inr, ⊎_elim, Bool, true, false, Option, Some, None, List, [], ◌∷◌, length, refl, sym, ap, subst, ◌∙◌, arith}
+use Rattle.std.proofs.Common.{◌≡◌, ℕ, zero, suc, ◌<◌, ◌⊎◌, inl, inr, ⊎_elim, Bool, true, false, Option, Some, None, List, [], ◌∷◌, length, refl, sym, ap, subst, ◌∙◌, arith}
 use Rattle.std.specs.Prelude.{slice_set, is_some, IsSome}
 use Rattle.std.proofs.lemmas.Bool.{cases_lt, false≢true}
 use Rattle.std.proofs.lemmas.List.{get_or_past, length-set}
@@ -11,11 +11,10 @@ use Rattle.inv_cert.specs.Closed.{ClosedList}
 use Rattle.local_stim.specs.Found.{FoundFailure}
 use Rattle.store_core.specs.declared.answers.Judged.{Judged}
 use Rattle.store_core.specs.declared.answers.Judged.TheVariants.{Proved, Fails, Spent}
-use Rattle.store_core.specs.declared.journal.Event.{Event}
 use Rattle.store_core.specs.declared.journal.Event.TheVariants.{Settle}
 use Rattle.store_core.specs.declared.mark.Mark.{Mark}
 use Rattle.store_core.specs.declared.mark.Mark.TheVariants as mark
-use Rattle.store_core.specs.Steps.{State, kept, mark_of, settled, settled_clauses, state_after}
+use Rattle.store_core.specs.Steps.{State, mark_of, settled, settled_clauses}
 use Rattle.store_core.specs.Boards.{Did}
 use Rattle.store_core.specs.Judged.{IfFails, IfProved, settle_event}
 use Rattle.store_core.proofs.NextBoards.{mark_set, mark_stays}

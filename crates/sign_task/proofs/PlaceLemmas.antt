@@ -1,12 +1,12 @@
 -- Places of failures, and the stimuli that are taken from there.
-use Rattle.std.proofs.Common.{◌≡◌, ℕ, zero, suc, ◌+◌, ◌<◌, ◌≤◌, eqb, eqb-true, ⊎_elim, Bool, true, false, cond, Option, Some, None, List, [], ◌∷◌, ◌++◌, length, length-take, map, slice_get, get_or, set, take, refl, sym, ap, subst, ◌∙◌, arith, add-one}
+use Rattle.std.proofs.Common.{◌≡◌, ℕ, suc, ◌+◌, ◌<◌, ◌≤◌, eqb, eqb-true, ⊎_elim, Bool, true, false, cond, Option, Some, None, List, [], ◌∷◌, ◌++◌, length, length-take, map, slice_get, get_or, take, refl, sym, ap, subst, ◌∙◌, arith, add-one}
 use Rattle.std.specs.Prelude.{All, Contains, is_some, if◌then◌else◌}
 use Rattle.std.specs.List.{filter}
 use Rattle.std.proofs.Math.Seq.{take-suc}
 use Rattle.std.proofs.lemmas.Bool.{cases_lt, false≢true}
 use Rattle.std.proofs.lemmas.List.{append-nil, map-append, length-map, get_or-map, get_or_past, get_or_default}
 use Rattle.std.proofs.lemmas.Option.{slice_get_within, slice_get-get_or, get_or_from_slice_get}
-use Rattle.std.proofs.lemmas.List.Elements.{All-push, All-contains, Contains-get_or}
+use Rattle.std.proofs.lemmas.List.Elements.{All-push, All-contains}
 use Rattle.ja_base.specs.Literals.{bit}
 use Rattle.ja_base.specs.Runs.{Trace}
 use Rattle.ja_base.specs.Failures.{Failure, stimuli_of}
@@ -66,9 +66,11 @@ plain_in : (failures : List FoundFailure) (k : ℕ) (f : FoundFailure) → slice
     → Contains (plain_failures failures) (record { property = f.prop; stimulus = f.stim })
 plain_in failures k f h =
     let plain : FoundFailure → Failure = λ g. record { property = g.prop; stimulus = g.stim } in
-    let lt = slice_get_within failures k f h in
-    (k, omega (arith, lt, length-map failures plain),
-    get_or-map plain failures k f (plain f) lt ∙ ap plain (get_or_from_slice_get failures k f f h))
+    let lt = slice_get_within failures k f h in (
+      k,
+      omega (arith, lt, length-map failures plain),
+      get_or-map plain failures k f (plain f) lt ∙ ap plain (get_or_from_slice_get failures k f f h),
+    )
 
 -- the place of a property that fails is one of a failure of it
 pub place_of : (failures : List FoundFailure) (ms : List Mark) (places : List ℕ) (n place : ℕ) → n < length ms

@@ -1,5 +1,5 @@
 -- What a report says of all properties together: joined or not, and the debugging set.
-use Rattle.std.specs.Prelude.{◌≡◌, ℕ, ◌⊎◌, ◌↔◌, true, [], List, All, Contains, IsTrue}
+use Rattle.std.specs.Prelude.{◌≡◌, ℕ, ◌⊎◌, ◌↔◌, true, [], All, Contains, IsTrue}
 use Rattle.ja_base.specs.Literals.{bit}
 use Rattle.ja_base.specs.Circuit.{Problem}
 use Rattle.ja_base.specs.Runs.{Trace, FailsLocally, IsFirstBroken, BreaksAssumed}

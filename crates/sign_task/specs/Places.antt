@@ -1,5 +1,5 @@
 -- Where the failure of a property stands among all.
-use Rattle.std.specs.Prelude.{◌≡◌, ℕ, ◌<◌, Some, List, length, slice_get, slice_index_or}
+use Rattle.std.specs.Prelude.{◌≡◌, ℕ, Some, List, length, slice_get, slice_index_or}
 use Rattle.store_core.specs.declared.mark.Mark.{Mark}
 use Rattle.store_core.specs.declared.mark.Mark.TheVariants.{Fails}
 use Rattle.local_stim.specs.Found.{FoundFailure}

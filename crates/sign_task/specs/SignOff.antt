@@ -1,5 +1,5 @@
 -- What a sign-off promises of its report.
-use Rattle.std.specs.Prelude.{◌≡◌, ℕ, true, false, Bool, Option, Some, List, map, is_some, IsTrue}
+use Rattle.std.specs.Prelude.{◌≡◌, ℕ, true, false, Option, Some, List, map, is_some, IsTrue}
 use Rattle.ja_base.specs.Literals.{bit}
 use Rattle.ja_base.specs.Budget.{sufficient_budget}
 use Rattle.ja_base.specs.Circuit.{Problem}

@@ -10,3 +10,6 @@ mod signing;
 mod stimuli;
 
 pub use signing::sign;
+
+#[cfg(test)]
+mod tests;

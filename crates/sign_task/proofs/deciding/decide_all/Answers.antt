@@ -1,4 +1,4 @@
-use Rattle.std.proofs.Common.{ℕ, Option, ◌∙◌, subst}
+use Rattle.std.proofs.Common.{◌∙◌, subst}
 use Rattle.sign_task.specs.Underway.{IsDrawn}
 use Rattle.sign_task.proofs.DrawLemmas.{next_decided, over_at_end}
 use Rattle.sign_task.proofs.deciding.decide_all.Goals as goal

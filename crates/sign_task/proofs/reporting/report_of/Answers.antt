@@ -1,17 +1,13 @@
 use Rattle.std.proofs.Common.{◌≡◌, ◌<◌, false, Some, List, length, map, refl, sym, ◌∙◌, ap, subst}
 use Rattle.std.specs.Prelude.{All}
-use Rattle.std.specs.List.Sorted.{IsStrictlyIncreasing}
 use Rattle.aig_model.specs.Netlist.{IsSound}
-use Rattle.aig_model.specs.Netlist as netlist
 use Rattle.inv_cert.specs.Closed.{ClosedList}
 use Rattle.local_stim.specs.Found.{FoundFailure}
 use Rattle.store_core.specs.declared.mark.Mark.{Mark}
 use Rattle.report.specs.Findings.{Findings}
-use Rattle.report.specs.Reports.{IsReport}
-use Rattle.sign_task.specs.Assembly.{IsAssembled, plain_failures}
 use Rattle.sign_task.specs.Places.{AllHaveFailure}
 use Rattle.sign_task.specs.Sections.{sizes_of}
-use Rattle.sign_task.proofs.EndLemmas.{IsLeft, IsMade, left_of, failures_within, all_have_failure, assembled, report_in_form, signs_off}
+use Rattle.sign_task.proofs.EndLemmas.{IsMade, left_of, failures_within, all_have_failure, assembled, report_in_form, signs_off}
 use Rattle.sign_task.proofs.reporting.report_of.Goals as goal
 
 pub stimuli_of-requires-clause-within : goal.stimuli_of-requires-clause-within

@@ -5,7 +5,7 @@ use Rattle.sign_task.proofs.stimuli.stimuli_of.Goals.{then-has_failed+in_ok-stim
 
 pub loop-prop-preserved : goal.loop-prop-preserved
 loop-prop-preserved c = elim c.if-has_failed.branch [
-  then-has_failed+in_ok-stimulus_of+in_ok-push w ↦
+  | then-has_failed+in_ok-stimulus_of+in_ok-push w ↦
       let failed = sym c.has_failed.ensures ∙ w.if-has_failed.true in
       let at = place_of c.args.failures.now c.args.marks.now c.in_ok-places.places.items c.loop-prop.prop w.index.result.now
       c.loop-prop-test.true failed c.in_ok-places.ensures c.requires.each w.index.ensures in
