@@ -1,5 +1,5 @@
 -- Where a file behind the first gives nothing, that is what the command comes to.
-use Rattle.std.proofs.Common.{◌≡◌, ℕ, ◌+◌, ◌≤◌, ◌⊎◌, ◌∙◌, inl, inr, List, Option, Some, None, refl, sym, arith}
+use Rattle.std.proofs.Common.{◌≡◌, ℕ, ◌≤◌, ◌∙◌, inl, inr, List, Option, Some, None, refl, arith}
 use Rattle.ja_base.specs.Runs.{Trace}
 use Rattle.ja_outside.specs.Faults.{Rose}
 use Rattle.ja_outside.specs.Shelf.{Held}

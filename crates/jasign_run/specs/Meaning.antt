@@ -1,7 +1,6 @@
 -- What a run means: which outcome comes of the words and of what the files hold, and what is then written. `held` is what
 -- each name of the shelf holds, if the shelf tells; `before` and `after` are counts of faults.
 use Rattle.std.specs.Prelude.{◌≡◌, ℕ, ◌⊎◌, ⊤, Bool, List, length, Option, MatchOption}
-use Rattle.ja_base.specs.Circuit.{Problem}
 use Rattle.ja_base.specs.Runs.{Trace}
 use Rattle.ja_outside.specs.Faults.{Rose}
 use Rattle.ja_outside.specs.Shelf.{Held}

@@ -10,7 +10,8 @@ pub(crate) struct Whole {
     pub(crate) status: u8,
 }
 
-/// A design, expectations or none, and what the text begins and ends with; between them stand clauses and stimuli, which may differ.
+/// A design, expectations or none, and what the text begins and ends with; between them stand clauses and stimuli, which may
+/// differ.
 pub(crate) struct Ends {
     pub(crate) design: &'static [u8],
     pub(crate) expect: Option<&'static [u8]>,

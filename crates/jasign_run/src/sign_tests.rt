@@ -71,8 +71,8 @@ fn the_design_comes_first(rt: HostRuntime) -> Result<(), Fail> {
     check_fault(&rt, &held, Vec::new(alloc), &["sign", "d", "t"], line, 3)
 }
 
-/// The calls on the shelf, from 0: the design is selected, read by 8, 8, 8, 4 and 0 bytes, the expectations selected, read by 8, 1
-/// and 0.
+/// The calls on the shelf, from 0: the design is selected, read by 8, 8, 8, 4 and 0 bytes, the expectations selected, read by
+/// 8, 1 and 0.
 #[test]
 fn each_call_of_a_sign_off_fails(rt: HostRuntime) -> Result<(), Fail> {
     let alloc = rt.alloc();

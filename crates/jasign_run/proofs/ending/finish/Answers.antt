@@ -1,4 +1,4 @@
-use Rattle.std.proofs.Common.{inl, inr, refl}
+use Rattle.std.proofs.Common.{inr, refl}
 use Rattle.jasign_run.specs.declared.outcome.Outcome.TheVariants.{Stopped}
 use Rattle.jasign_run.specs.declared.outcome.Stop.TheVariants.{Memory}
 use Rattle.jasign_run.proofs.ending.finish.Goals as goal

@@ -1,4 +1,4 @@
-use Rattle.std.proofs.Common.{◌≡◌, ◌<◌, ℕ, true, List, length, replicate, ◌∙◌, sym, ap, subst, arith}
+use Rattle.std.proofs.Common.{◌≡◌, ◌<◌, ℕ, true, length, replicate, ◌∙◌, sym, ap, subst, arith}
 use Rattle.std.proofs.lemmas.Option.{slice_get_within}
 use Rattle.jasign_run.proofs.Columns.{assumed_before, assumed_begins, assumed_ends, assumed_goes_on, assumed_is_long}
 use Rattle.jasign_run.proofs.verdicts.assumed_of.Goals as goal
@@ -14,8 +14,8 @@ set_where_failing-requires c =
 
 pub loop-prop-preserved : goal.loop-prop-preserved
 loop-prop-preserved c =
-    assumed_goes_on c.args.lines.now c.loop-prop.prop c.get.result.now c.loop-prop.expect c.set_where_failing.new.expect c.get.ensures
-    c.loop-prop.invariant c.set_where_failing.ensures
+    assumed_goes_on c.args.lines.now c.loop-prop.prop c.get.result.now c.loop-prop.expect c.set_where_failing.new.expect
+    c.get.ensures c.loop-prop.invariant c.set_where_failing.ensures
 
 pub returns : goal.returns
 returns c =
