@@ -171,11 +171,12 @@ fn probes(
     } else {
         &clauses[..last]
     };
+    let among = if with_extra { None } else { Some(&ALL[..]) };
     let probed = solver.probe(
         alloc,
         lits.as_slice(),
         given,
-        None,
+        among,
         &mut row,
         &mut Meter::new(None),
         &mut NoFlag,
