@@ -1,6 +1,6 @@
 //! The yardstick of the solvers: reads clauses and lists of literals, each in the form of DIMACS, and says for each list what is
-//! answered under it, and what it took. With a third word `log` the lines of the refutations are written in place of that, and with
-//! `probe` the solver that keeps what it learns is asked.
+//! answered under it, and what it took. With a third word `log` the lines of the refutations are written in place of that, and
+//! with `probe` the solver that keeps what it learns is asked.
 #![tactic(auto)]
 
 mod ask;

@@ -66,7 +66,8 @@ recall_follows added list left whole clause after e f h =
     let P : List (List ℕ) → Type 0 = All (FollowsOne added) in
     let Q : List (List ℕ) → Type 0 = Follows added in
     let all : All (FollowsOne added) (left ++ clause ∷ []) = subst P e h.0 in
-    (all_front (FollowsOne added) left clause all, subst Q (sym f) (follows_push added list clause h.1 (all_last (FollowsOne added) left clause all)))
+    let one : FollowsOne added clause = all_last (FollowsOne added) left clause all in
+    (all_front (FollowsOne added) left clause all, subst Q (sym f) (follows_push added list clause h.1 one))
 
 -- ---- a question
 

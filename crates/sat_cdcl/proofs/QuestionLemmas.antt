@@ -45,7 +45,8 @@ pub last_holds : (list : List (List ℕ)) (c : List ℕ) (v : List Bool) → All
 last_holds list c v all =
     let P : List ℕ → Type 0 = SatisfiedBy (value v) in
     let wide = length_push list c in
-    subst P (get_or_from_slice_get (list ++ c ∷ []) (length list) c [] (last_is list c)) (all (length list) [] (omega (arith, wide)))
+    subst P (get_or_from_slice_get (list ++ c ∷ []) (length list) c [] (last_is list c))
+    (all (length list) [] (omega (arith, wide)))
 
 -- ---- taints
 
@@ -58,7 +59,8 @@ tainted_before first n taints b less = go (nat_lt n first) refl
         → cond low false (bit (taints ++ b ∷ []) (n - first)) ≡ cond low false (bit taints (n - first))
     go true e = refl
     go false e =
-        get_or_append_left taints (b ∷ []) false (n - first) (let high : first ≤ n = grind (arith, nat_tests) in omega (arith, less, high))
+        let high : first ≤ n = grind (arith, nat_tests) in
+        get_or_append_left taints (b ∷ []) false (n - first) (omega (arith, less, high))
 
 tainted_last : (first n : ℕ) (taints : List Bool) (b : Bool) → n ≡ first + length taints
     → is_tainted first (taints ++ b ∷ []) n ≡ b
@@ -116,7 +118,8 @@ pub line_clean : (vars : ℕ) (added : List (List ℕ)) (extra : Option (List �
     (clause hints : List ℕ) (q : Question) → IsLearning vars added extra list q → refusal n list clause hints ≡ None
     → All (λ k. is_tainted q.first q.taints.items k ≡ false) hints → FollowsOne added clause
 line_clean vars added extra list n clause hints q h e off v all =
-    named_follows n (is_tainted q.first q.taints.items) list clause hints v e off (λ k c there clean. h.clean k c there clean v all)
+    named_follows n (is_tainted q.first q.taints.items) list clause hints v e off
+    (λ k c there clean. h.clean k c there clean v all)
 
 pub line_sound : (vars : ℕ) (added : List (List ℕ)) (extra : Option (List ℕ)) (list : List (List ℕ)) (n : ℕ)
     (clause hints : List ℕ) (q : Question) → IsLearning vars added extra list q → refusal n list clause hints ≡ None
@@ -157,7 +160,8 @@ learning_extra vars added list clause q q' h first taints kept =
           elim (slice_get_push list clause n d e) [
             | inl old ↦
                 let low = slice_get_within list n d old in
-                h.clean n d old (sym (tainted_before q.first n q.taints.items true (omega (arith, low, h.width))) ∙ sym same ∙ off)
+                h.clean n d old
+                (sym (tainted_before q.first n q.taints.items true (omega (arith, low, h.width))) ∙ sym same ∙ off)
             | inr last ↦
                 let wrong : true ≡ false =
                 sym (tainted_last q.first n q.taints.items true (last.0 ∙ h.width)) ∙ sym same ∙ off in

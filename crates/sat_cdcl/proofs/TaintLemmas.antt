@@ -67,7 +67,8 @@ outcome_masked t list [] row at h = refl
 outcome_masked t list (n ∷ ns) row at h =
     ap (λ o. (judged (found_at row o) row at ns (λ next. outcome (masked t list) ns next (at + 1))).1)
     (masked_at t list n (All-head (λ k. t k ≡ false) n ns h))
-    ∙ go ns (found_at row (slice_get list n)) (λ next. outcome_masked t list ns next (at + 1) (All-tail (λ k. t k ≡ false) n ns h))
+    ∙ go ns (found_at row (slice_get list n))
+    (λ next. outcome_masked t list ns next (at + 1) (All-tail (λ k. t k ≡ false) n ns h))
   where
     go : (left : List ℕ) (f : Found)
         → ((next : List Bool) → (outcome (masked t list) ns next (at + 1)).1 ≡ (outcome list ns next (at + 1)).1)

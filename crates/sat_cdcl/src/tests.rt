@@ -5,7 +5,7 @@ mod masks;
 
 use crate::tests::masks::{VARS, clause_of, has_row, holds, lits_of, mask_of, row_mask};
 use crate::{KeepSat, LearnSat};
-use ja_base::{Clause, Lit, Memory, Meter, Row};
+use ja_base::{Clause, Lit, Memory, Meter, Row, Var};
 use ja_outside::{MemFlag, NoFlag};
 use refute_check::{Checker, Refuted};
 use sat_plain::{Probe, Probed, Sat, SatAnswer};
@@ -134,7 +134,23 @@ fn is_told(clauses: &[u64], under: u64, probed: &Probed, row: &Row) -> bool {
     }
 }
 
-/// Whether a question is answered right, with the last clause as the extra one, or without one.
+// All variables, in an order of their own.
+const ALL: [Var; 12] = [
+    Var(7),
+    Var(0),
+    Var(5),
+    Var(10),
+    Var(3),
+    Var(8),
+    Var(1),
+    Var(6),
+    Var(11),
+    Var(4),
+    Var(9),
+    Var(2),
+];
+
+/// Whether a question is answered right, with the last clause as the extra one, or without one and with all variables given.
 fn probes(
     alloc: Global,
     solver: &mut KeepSat,
@@ -155,11 +171,12 @@ fn probes(
     } else {
         &clauses[..last]
     };
+    let among = if with_extra { None } else { Some(&ALL[..]) };
     let probed = solver.probe(
         alloc,
         lits.as_slice(),
         given,
-        None,
+        among,
         &mut row,
         &mut Meter::new(None),
         &mut NoFlag,

@@ -12,7 +12,7 @@ use Rattle.sat_cdcl.proofs.keep_sat.ask.Goals as goal
 pub returns-in-Err-clause-keeps : goal.returns-in-Err-clause-keeps
 returns-in-Err-clause-keeps g c = λ added h.
     let K : List (List ℕ) → Type 0 = All (IsKeepable c.args.db.now.watched.trail.vars added) in
-    subst K (sym c.put_extra.ensures.keeps) h.keeps
+    subst K (sym {A = List (List ℕ)} c.put_extra.ensures.keeps) h.keeps
 
 pub returns-in-Ok-clause-keeps : goal.returns-in-Ok-clause-keeps
 returns-in-Ok-clause-keeps g c = λ added h.

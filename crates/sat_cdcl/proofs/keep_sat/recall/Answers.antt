@@ -31,7 +31,8 @@ loop-clause-preserved c =
     let trail = c.in-Ok.ensures.trail in
     record {
       kept = kept_chain c.args.db.now c.loop-clause.db c.put.new.self i.kept
-          (kept_put c.loop-clause.db c.put.new.self c.in-Ok.field-0 c.in-Some.clause trail c.in-Ok.ensures.slots c.in-Ok.ensures.list);
+          (kept_put c.loop-clause.db c.put.new.self c.in-Ok.field-0 c.in-Some.clause trail c.in-Ok.ensures.slots
+          c.in-Ok.ensures.list);
       trail = trail ∙ i.trail;
       below = subst T (sym trail)
           (all_front (IsBelow vars) left c.in-Some.clause (subst P c.in-Some.ensures.items i.below));

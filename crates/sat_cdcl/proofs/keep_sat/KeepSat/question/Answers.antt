@@ -47,7 +47,8 @@ recall-requires g c =
     c.new-question.ensures.kept in
     let kept : List (List ℕ) = c.ask-answer.new.question.kept.items in
     let B : ℕ → Type 0 = λ k. All (IsBelow k) kept in
-    subst B (sym vars) (All-weaker (IsKeepable n chosen) (IsBelow n) (λ k both. both.0) kept (c.ask-answer.ensures.keeps chosen h))
+    subst B (sym vars)
+    (All-weaker (IsKeepable n chosen) (IsBelow n) (λ k both. both.0) kept (c.ask-answer.ensures.keeps chosen h))
 
 pub invariant_of-self : goal.invariant_of-self
 invariant_of-self g c =
