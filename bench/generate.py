@@ -105,6 +105,22 @@ def ring(latches):
     return "\n".join(lines) + "\n", "".join(clauses), "".join(proofs)
 
 
+def shallow(latches, props):
+    """A one-hot ring, and for each two of its latches and an input the property that these three are never 1 at once."""
+    n = latches
+    own = lambda at: 2 * (n + 1 + at)
+    pairs = [(a, b) for a in range(n) for b in range(a)]
+    both = {pair: 2 * (2 * n + 1 + at) for at, pair in enumerate(pairs)}
+    asked = [(pair, at) for at in range(n) for pair in pairs][:props]
+    bads = [2 * (2 * n + len(pairs) + 1 + at) for at in range(props)]
+    lines = [f"aag {2 * n + len(pairs) + props} {n} {n} 0 {len(pairs) + props} {props}"]
+    lines += [str(2 * (at + 1)) for at in range(n)]
+    lines += [f"{own(at)} {own((at - 1) % n)} {1 if at == 0 else 0}" for at in range(n)] + [str(bad) for bad in bads]
+    lines += [f"{both[a, b]} {own(a)} {own(b)}" for a, b in pairs]
+    lines += [f"{bad} {both[pair]} {2 * (at + 1)}" for bad, (pair, at) in zip(bads, asked)]
+    return "\n".join(lines) + "\n"
+
+
 def report(clauses, props, seed=5):
     """The report of a design of 20,000 latches: every fortieth property fails, and the journal is shown."""
     chance = random.Random(seed)
@@ -147,6 +163,7 @@ def main(folder):
     }
     for name, text in texts.items():
         (folder / name).write_text(text)
+    (folder / "shallow.aag").write_text(shallow(8, 200))
     for latches in (10, 20):
         (folder / f"ring_{latches}.aag").write_text(ring(latches)[0])
     for name, text in zip(["ring.aag", "ring.clauses", "ring.proofs"], ring(3_000)):
