@@ -1,5 +1,5 @@
 -- What the engine finds of a property.
-use Rattle.std.specs.Prelude.{◌≡◌, ℕ, ◌⊎◌, Bool, true, false, List, slice_set, ⊤}
+use Rattle.std.specs.Prelude.{◌≡◌, ℕ, ◌⊎◌, Bool, true, false, List, slice_set, ⊤, ⊥}
 use Rattle.ja_base.specs.Literals.{bit}
 use Rattle.aig_model.specs.Task.{VerificationTask, problem}
 use Rattle.local_stim.specs.Found.{FoundFailure}
@@ -22,6 +22,11 @@ IsFoundOf t p (Fails failure) = IsFailureFor t p failure
 pub record IsUnseen (t : VerificationTask) (failed : List Bool) (p : ℕ) : Type 0 where
   pub assumed : bit t.expected p ≡ true
   pub unseen : bit failed p ≡ false
+
+-- the property is covered by just this list
+abbrev pub HasList : List (List ℕ) → Found → Type 0
+HasList clauses (Proved proved) = proved.list.clauses ≡ clauses
+HasList clauses (Fails failure) = ⊥
 
 -- a failure of the property, or one of an assumed property of which none was found before
 pub record IsFailureSeen (t : VerificationTask) (p : ℕ) (failed : List Bool)

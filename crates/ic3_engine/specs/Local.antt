@@ -1,5 +1,5 @@
 -- What the call for one property answers.
-use Rattle.std.specs.Prelude.{◌≡◌, ℕ, ⊤}
+use Rattle.std.specs.Prelude.{◌≡◌, ℕ, List, ⊤, ⊥}
 use Rattle.ja_base.specs.declared.meter.Meter.{Meter}
 use Rattle.aig_model.specs.Task.{VerificationTask}
 use Rattle.sat_plain.specs.Ticks.{IsRefused}
@@ -15,6 +15,14 @@ IsOf t p (Fails failure) = IsFailureFor t p failure
 IsOf t p Spent = ⊤
 IsOf t p Stopped = ⊤
 IsOf t p Memory = ⊤
+
+-- the property is covered by just this list, wherever the call came to an answer
+abbrev pub AnswersList : List (List ℕ) → LocalAnswer → Type 0
+AnswersList clauses (Proved proved) = proved.list.clauses ≡ clauses
+AnswersList clauses (Fails failure) = ⊥
+AnswersList clauses Spent = ⊤
+AnswersList clauses Stopped = ⊤
+AnswersList clauses Memory = ⊤
 
 -- a tick was refused exactly where the answer is `Spent`
 abbrev pub IsAnswered : Meter → Meter → LocalAnswer → Type 0

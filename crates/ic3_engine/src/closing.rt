@@ -32,7 +32,8 @@ pub(crate) fn proved_by(
     requires task { problem known.now.task ≡ problem coded.now }
     requires own { known.now.own ≡ [] }
     requires covers { Covers (circuit coded.now.design) (all_of known.now) prop }
-    ensures { IfOk result (IsProvedFor coded.now prop) }
+    ensures proved { IfOk result (IsProvedFor coded.now prop) }
+    ensures list { IfOk result (λ proved. proved.list.clauses ≡ known.now.list) }
 {
     let list = known.list().copy(alloc)?;
     Ok(ProvedList { list, prop })

@@ -75,12 +75,14 @@ fn block<S: Probe, F: Flag>(
 ) -> Result<Option<LocalFailure>, Halt>
     requires table { table.now ≡ coded.now.design }
     requires within { prop < length coded.now.design.bads }
-    requires search { IsSearching coded.now prop (state z.old.known z.old.frames z.old.queue (S.count z.old.solver)
+    requires search { IsSearching coded.now prop
+        (state z.old.known z.old.frames z.old.queue (S.count z.old.solver)
         (S.added z.old.solver)) }
     requires room { IsRoom coded.now.design z.old.room.row z.old.room.vals }
     requires waits { IsWaiting coded.now prop z.old.frames.top first }
     requires free { is_blocked z.old.frames.kept first.level first.clause ≡ false }
-    ensures blocked { IfOk result (Blocked coded.now prop (state z.old.known z.old.frames z.old.queue (S.count z.old.solver)
+    ensures blocked { IfOk result (Blocked coded.now prop
+        (state z.old.known z.old.frames z.old.queue (S.count z.old.solver)
         (S.added z.old.solver)) (state z.new.known z.new.frames z.new.queue (S.count z.new.solver)
         (S.added z.new.solver))) }
     ensures room { IsRoom coded.now.design z.new.room.row z.new.room.vals }
@@ -123,13 +125,15 @@ fn take_first<S: Probe, F: Flag>(
 ) -> Result<Round, Halt>
     requires table { table.now ≡ coded.now.design }
     requires within { prop < length coded.now.design.bads }
-    requires search { IsSearching coded.now prop (state z.old.known z.old.frames z.old.queue (S.count z.old.solver)
+    requires search { IsSearching coded.now prop
+        (state z.old.known z.old.frames z.old.queue (S.count z.old.solver)
         (S.added z.old.solver)) }
     requires room { IsRoom coded.now.design z.old.room.row z.old.room.vals }
     requires first { IsFirst coded.now prop z.old.frames.top z.old.room.vals first }
     requires level { IsIn (circuit coded.now.design) z.old.frames.kept z.old.frames.top
         (latch_row (circuit coded.now.design) z.old.room.vals) }
-    ensures round { IfOk result (IsRound coded.now prop (state z.old.known z.old.frames z.old.queue (S.count z.old.solver)
+    ensures round { IfOk result (IsRound coded.now prop
+        (state z.old.known z.old.frames z.old.queue (S.count z.old.solver)
         (S.added z.old.solver)) (state z.new.known z.new.frames z.new.queue (S.count z.new.solver)
         (S.added z.new.solver))) }
     ensures room { IsRoom coded.now.design z.new.room.row z.new.room.vals }
@@ -161,11 +165,13 @@ fn take_round<S: Probe, F: Flag>(
 ) -> Result<Round, Halt>
     requires table { table.now ≡ coded.now.design }
     requires within { prop < length coded.now.design.bads }
-    requires search { IsSearching coded.now prop (state z.old.known z.old.frames z.old.queue (S.count z.old.solver)
+    requires search { IsSearching coded.now prop
+        (state z.old.known z.old.frames z.old.queue (S.count z.old.solver)
         (S.added z.old.solver)) }
     requires room { IsRoom coded.now.design z.old.room.row z.old.room.vals }
     requires empty { z.old.queue ≡ [] }
-    ensures round { IfOk result (IsRound coded.now prop (state z.old.known z.old.frames z.old.queue (S.count z.old.solver)
+    ensures round { IfOk result (IsRound coded.now prop
+        (state z.old.known z.old.frames z.old.queue (S.count z.old.solver)
         (S.added z.old.solver)) (state z.new.known z.new.frames z.new.queue (S.count z.new.solver)
         (S.added z.new.solver))) }
     ensures room { IsRoom coded.now.design z.new.room.row z.new.room.vals }
@@ -208,11 +214,13 @@ pub(crate) fn cover<S: Probe, F: Flag>(
 ) -> Result<Option<LocalFailure>, Halt>
     requires table { table.now ≡ coded.now.design }
     requires within { prop < length coded.now.design.bads }
-    requires search { IsSearching coded.now prop (state z.old.known z.old.frames z.old.queue (S.count z.old.solver)
+    requires search { IsSearching coded.now prop
+        (state z.old.known z.old.frames z.old.queue (S.count z.old.solver)
         (S.added z.old.solver)) }
     requires room { IsRoom coded.now.design z.old.room.row z.old.room.vals }
     requires empty { z.old.queue ≡ [] }
-    ensures covers { IfOk result (CoversTop coded.now prop (state z.old.known z.old.frames z.old.queue (S.count z.old.solver)
+    ensures covers { IfOk result (CoversTop coded.now prop
+        (state z.old.known z.old.frames z.old.queue (S.count z.old.solver)
         (S.added z.old.solver)) (state z.new.known z.new.frames z.new.queue (S.count z.new.solver)
         (S.added z.new.solver))) }
     ensures room { IsRoom coded.now.design z.new.room.row z.new.room.vals }

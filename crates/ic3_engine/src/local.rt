@@ -11,8 +11,8 @@ ghost use Rattle.ic3_query.specs.Endings.{IsCharged, OnStopped};
 ghost use Rattle.ic3_query.specs.Known.{all_of};
 ghost use Rattle.ic3_query.specs.Questions.{IsRoom};
 ghost use Rattle.ic3_engine.specs.Engines.{IsReady};
-ghost use Rattle.ic3_engine.specs.Found.{IsFoundOf};
-ghost use Rattle.ic3_engine.specs.Local.{IsAnswered, IsOf, OnAnswerStopped};
+ghost use Rattle.ic3_engine.specs.Found.{HasList, IsFoundOf};
+ghost use Rattle.ic3_engine.specs.Local.{AnswersList, IsAnswered, IsOf, OnAnswerStopped};
 ghost use Rattle.ic3_engine.specs.Turns.{state};
 
 use crate::closing::proved_by;
@@ -140,6 +140,8 @@ fn find<S: Probe, L: Sat, F: Flag, H: Share>(
     ensures flag { IsPolled F.may_rise F.raised flag.old flag.new }
     ensures share_task { H.task share.new ≡ H.task share.old }
     ensures share_later { H.later share.old share.new }
+    ensures covered { Covers (circuit coded.now.design) view.now.clauses prop
+        → IfOk result (HasList view.now.clauses) }
     ensures few { Covers (circuit coded.now.design) view.now.clauses prop
         → TicksAtMost meter.old meter.new (1 + 3 ^ (coded.now.design.vars + 1)) }
 {
@@ -173,6 +175,8 @@ pub fn prove_local<S: Probe, L: Sat, F: Flag, H: Share>(
     ensures flag { IsPolled F.may_rise F.raised flag.old flag.new }
     ensures share_task { H.task share.new ≡ H.task share.old }
     ensures share_later { H.later share.old share.new }
+    ensures covered { Covers (circuit coded.now.design) view.now.clauses prop
+        → AnswersList view.now.clauses result }
     ensures few { Covers (circuit coded.now.design) view.now.clauses prop
         → TicksAtMost meter.old meter.new (1 + 3 ^ (coded.now.design.vars + 1)) }
 {

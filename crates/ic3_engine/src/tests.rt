@@ -289,6 +289,43 @@ fn ends_where_the_list_covers(rt: HostRuntime) -> Result<(), Fail> {
             )?;
             assert_eq!(rt; again, expected, "{limit}");
         }
+        let stopped = mark_alone::<PlainSat, MemFlag>(
+            alloc,
+            &coded,
+            0,
+            &proved.list,
+            &mut Meter::new(None),
+            &mut MemFlag::new(Some(0)),
+        )?;
+        assert_eq!(rt; stopped, Mark::Halted(Halt::Stopped));
+    }
+    Ok(())
+}
+
+// The second latch is 1 from step 2 on, the first from step 1 on: a search for the longer failure leaves a top above the shorter.
+#[test]
+fn finds_a_failure_below_the_top(rt: HostRuntime) -> Result<(), Fail> {
+    let alloc = rt.alloc();
+    let coded = coded(alloc, TWO, [true, true, false]).ok_or("no design")?;
+    let mut engine: Engine<PlainSat> = engine(alloc, &coded)?;
+    if coded.task().design().props() == 2 {
+        let mut meter = Meter::new(None);
+        let longer = outcome(alloc, &coded, 1, &mut engine, &mut meter, &mut NoFlag);
+        assert_eq!(rt; longer, Fails);
+        assert!(rt; engine.search.frames.top() >= 2);
+        let found = prove::<PlainSat, PlainSat, NoFlag>(
+            alloc,
+            &coded,
+            0,
+            &mut engine,
+            &mut meter,
+            &mut NoFlag,
+        );
+        let Ok(Found::Fails(failure)) = found else {
+            return Err("no failure".into());
+        };
+        assert_eq!(rt; failure.prop(), 0);
+        assert_eq!(rt; failure.stim().inputs().len(), 2);
     }
     Ok(())
 }

@@ -104,7 +104,8 @@ fn finish<S: Probe, F: Flag>(
     meter: &mut Meter,
     flag: &mut F,
 ) -> Result<(), Halt>
-    requires search { IsSearching coded.now prop (state z.old.known z.old.frames z.old.queue (S.count z.old.solver)
+    requires search { IsSearching coded.now prop
+        (state z.old.known z.old.frames z.old.queue (S.count z.old.solver)
         (S.added z.old.solver)) }
     requires room { IsRoom coded.now.design z.old.room.row z.old.room.vals }
     requires waits { IsWaiting coded.now prop z.old.frames.top now }
@@ -113,7 +114,8 @@ fn finish<S: Probe, F: Flag>(
     requires own { is_foreign (circuit coded.now.design) part ≡ false }
     requires begins { starts (circuit coded.now.design) part ≡ true }
     requires kept { IsKeptAt coded.now (all_of z.old.known) z.old.frames (now.level - 1) part }
-    ensures blocks { OnOk result (Blocks coded.now prop 1 (state z.old.known z.old.frames z.old.queue (S.count z.old.solver)
+    ensures blocks { OnOk result (Blocks coded.now prop 1
+        (state z.old.known z.old.frames z.old.queue (S.count z.old.solver)
         (S.added z.old.solver)) (state z.new.known z.new.frames z.new.queue (S.count z.new.solver)
         (S.added z.new.solver))) }
     ensures room { IsRoom coded.now.design z.new.room.row z.new.room.vals }
@@ -174,12 +176,14 @@ fn at_level<S: Probe, F: Flag>(
 ) -> Result<Turn, Halt>
     requires table { table.now ≡ coded.now.design }
     requires within { prop < length coded.now.design.bads }
-    requires search { IsSearching coded.now prop (state z.old.known z.old.frames z.old.queue (S.count z.old.solver)
+    requires search { IsSearching coded.now prop
+        (state z.old.known z.old.frames z.old.queue (S.count z.old.solver)
         (S.added z.old.solver)) }
     requires room { IsRoom coded.now.design z.old.room.row z.old.room.vals }
     requires waits { IsWaiting coded.now prop z.old.frames.top now }
     requires free { is_blocked z.old.frames.kept now.level now.clause ≡ false }
-    ensures turn { IfOk result (IsTurn coded.now prop now.level (state z.old.known z.old.frames z.old.queue (S.count z.old.solver)
+    ensures turn { IfOk result (IsTurn coded.now prop now.level
+        (state z.old.known z.old.frames z.old.queue (S.count z.old.solver)
         (S.added z.old.solver)) (state z.new.known z.new.frames z.new.queue (S.count z.new.solver)
         (S.added z.new.solver))) }
     ensures room { IsRoom coded.now.design z.new.room.row z.new.room.vals }
@@ -239,12 +243,14 @@ pub(crate) fn take_turn<S: Probe, F: Flag>(
 ) -> Result<Turn, Halt>
     requires table { table.now ≡ coded.now.design }
     requires within { prop < length coded.now.design.bads }
-    requires search { IsSearching coded.now prop (state z.old.known z.old.frames z.old.queue (S.count z.old.solver)
+    requires search { IsSearching coded.now prop
+        (state z.old.known z.old.frames z.old.queue (S.count z.old.solver)
         (S.added z.old.solver)) }
     requires room { IsRoom coded.now.design z.old.room.row z.old.room.vals }
     requires waits { IsWaiting coded.now prop z.old.frames.top now }
     requires free { is_blocked z.old.frames.kept now.level now.clause ≡ false }
-    ensures turn { IfOk result (IsTurn coded.now prop now.level (state z.old.known z.old.frames z.old.queue (S.count z.old.solver)
+    ensures turn { IfOk result (IsTurn coded.now prop now.level
+        (state z.old.known z.old.frames z.old.queue (S.count z.old.solver)
         (S.added z.old.solver)) (state z.new.known z.new.frames z.new.queue (S.count z.new.solver)
         (S.added z.new.solver))) }
     ensures room { IsRoom coded.now.design z.new.room.row z.new.room.vals }

@@ -19,7 +19,7 @@ struct Rights {
 /// The variables that a question depends on, listed from its roots down through the gates. They are a hint to the solver: nothing
 /// is promised of them. The constraints are roots of each question.
 #[derive(Debug, Drop)]
-pub struct Cones {
+pub(crate) struct Cones {
     /// The right sides of the gate of each variable; the constants where it has none.
     rights: Vec<Rights>,
     /// The round in which each variable was listed last.
@@ -29,7 +29,7 @@ pub struct Cones {
 }
 
 impl Cones {
-    pub fn new(alloc: Global, design: &Design) -> Result<Cones, Memory> {
+    pub(crate) fn new(alloc: Global, design: &Design) -> Result<Cones, Memory> {
         let width = design.vars() as usize + 1;
         let none = Rights {
             left: Lit(0),
@@ -54,7 +54,7 @@ impl Cones {
     }
 
     /// The variables listed last.
-    pub fn vars(&self) -> &[Var] {
+    pub(crate) fn vars(&self) -> &[Var] {
         self.vars.as_slice()
     }
 
@@ -111,7 +111,7 @@ impl Cones {
     }
 
     /// Lists what the literal depends on.
-    pub fn mark(&mut self, coded: &Coded, lit: Lit) -> Result<(), Memory> {
+    pub(crate) fn mark(&mut self, coded: &Coded, lit: Lit) -> Result<(), Memory> {
         self.begin();
         self.list_constraints(coded.task().design())?;
         self.list(lit)?;
@@ -119,7 +119,7 @@ impl Cones {
     }
 
     /// Lists what the clause depends on one step later.
-    pub fn mark_later(&mut self, coded: &Coded, clause: &Clause) -> Result<(), Memory>
+    pub(crate) fn mark_later(&mut self, coded: &Coded, clause: &Clause) -> Result<(), Memory>
         requires { is_foreign (circuit coded.now.design) clause.now ≡ false }
     {
         self.begin();

@@ -26,7 +26,6 @@ mod under;
 pub use asked::Asked;
 pub use bad::ask_bad;
 pub use closing::close;
-pub use cones::Cones;
 pub use halt::Halt;
 pub use known::Known;
 pub use laws::fits_frames;

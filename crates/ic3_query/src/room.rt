@@ -15,7 +15,7 @@ pub struct Room {
     pub row: Row,
     /// The values of a step, which answer the question.
     pub vals: Row,
-    pub cones: Cones,
+    pub(crate) cones: Cones,
 }
 
 impl Room {
