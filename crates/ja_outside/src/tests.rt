@@ -4,7 +4,10 @@ ghost use Rattle.ja_outside.specs.Flags.{IsPolled, IsFoundRaised};
 ghost use Rattle.ja_outside.specs.Shelf.{IsWhole};
 ghost use Rattle.ja_outside.specs.Sink.{Appends};
 
-use crate::{Flag, MemFlag, MemShelf, MemSink, Shelf, Sink, Whole, read_whole, write_whole};
+use crate::{
+    Flag, Gate, GatePoint, HoldGate, MemFlag, MemShelf, MemSink, Shelf, Sink, Whole, read_whole,
+    write_whole,
+};
 use std::alloc::{AllocError, Global};
 use std::test::Fail;
 
@@ -128,6 +131,20 @@ fn is_raised_from_a_poll_on(rt: HostRuntime) -> Result<(), Fail> {
             is_raised,
             "raised from poll {after:?} on"
         );
+    }
+    Ok(())
+}
+
+#[test]
+fn a_gate_that_nobody_answers_ends(rt: HostRuntime) -> Result<(), Fail> {
+    let alone = HoldGate::new(3);
+    alone.pass(GatePoint::Drawn);
+    alone.pass(GatePoint::Answered);
+    let late = HoldGate::new(3);
+    late.pass(GatePoint::Answered);
+    late.pass(GatePoint::Drawn);
+    for gate in [alone, late] {
+        assert!(rt; !gate.met());
     }
     Ok(())
 }
