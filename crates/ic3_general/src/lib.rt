@@ -6,6 +6,8 @@
 mod failing;
 mod lifting;
 mod rows;
+mod shrinking;
 
 pub use failing::failure_of;
 pub use lifting::{Cube, lifted, lifted_bad};
+pub use shrinking::shrink;
