@@ -1,5 +1,5 @@
 -- What the engine finds of a property.
-use Rattle.std.specs.Prelude.{◌≡◌, ℕ, ◌⊎◌, Bool, true, false, List, slice_set, ⊤, ⊥}
+use Rattle.std.specs.Prelude.{◌≡◌, ℕ, ◌⊎◌, Bool, true, false, List, slice_set, ⊤}
 use Rattle.ja_base.specs.Literals.{bit}
 use Rattle.aig_model.specs.Task.{VerificationTask, problem}
 use Rattle.local_stim.specs.Found.{FoundFailure}

@@ -1,5 +1,5 @@
 -- What the call for one property answers.
-use Rattle.std.specs.Prelude.{◌≡◌, ℕ, List, ⊤, ⊥}
+use Rattle.std.specs.Prelude.{◌≡◌, ℕ, List, ⊤}
 use Rattle.ja_base.specs.declared.meter.Meter.{Meter}
 use Rattle.aig_model.specs.Task.{VerificationTask}
 use Rattle.sat_plain.specs.Ticks.{IsRefused}
