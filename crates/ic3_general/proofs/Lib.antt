@@ -1,3 +1,4 @@
 pub mod RowLemmas
 pub mod CubeLemmas
 pub mod ChainLemmas
+pub mod SureLemmas

@@ -1,2 +1,4 @@
 pub mod Cubes
 pub mod Chains
+pub mod Lifting
+pub mod Dropping

@@ -3,9 +3,15 @@
 //! failure.
 #![tactic(auto)]
 
+mod dropping;
 mod failing;
+mod justifying;
 mod lifting;
 mod rows;
+mod sure;
+mod targets;
 
+pub use dropping::lift;
 pub use failing::failure_of;
 pub use lifting::{Cube, lifted, lifted_bad};
+pub use sure::sure_into;
