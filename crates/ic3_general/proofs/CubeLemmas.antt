@@ -1,10 +1,11 @@
 -- Clauses of literals that are 0 in a row: the latch row is in the cube that they exclude.
-use Rattle.std.proofs.Common.{◌≡◌, ℕ, suc, zero, ◌%◌, ◌==◌, ◌&&◌, ◌||◌, Bool, true, false, not, cond, List, [], ◌∷◌, length, slice_get, Some, refl, sym, ap, ◌∙◌, subst, arith, ⊎_elim, inl, inr, ◌⊎◌}
+use Rattle.std.proofs.Common.{◌≡◌, ℕ, suc, zero, ◌%◌, ◌==◌, ◌&&◌, ◌||◌, Bool, true, false, not, cond, List, [], ◌∷◌, ◌++◌, length, slice_get, Some, refl, sym, ap, ◌∙◌, subst, arith, ⊎_elim, inl, inr, ◌⊎◌}
 use Rattle.std.specs.Prelude.{Contains}
 use Rattle.std.specs.List.{list_any, list_all}
 use Rattle.std.proofs.lemmas.Bool.{false≢true, false_from_ne_true, eq-eqb, cases_eq}
 use Rattle.std.proofs.lemmas.Bool.Decides.{nat_tests}
 use Rattle.std.proofs.lemmas.List.{length-map}
+use Rattle.std.proofs.lemmas.List.Elements.{Contains-push_cases}
 use Rattle.std.proofs.lemmas.Option.{slice_get_read, slice_get_within, get_or_from_slice_get}
 use Rattle.ja_base.specs.Literals.{bit, variable, negated, is_negated, with_sign, value}
 use Rattle.ja_base.specs.Clauses.{IsSetOf, has_literal}
@@ -89,13 +90,14 @@ sign_of_even l b even = by_sign (is_negated l) (not_odd l even)
 
 -- of two literals over one variable with different values each is the negation of the other
 other_sign : (row : List Bool) (a b : ℕ) → variable a ≡ variable b → value row a ≡ false → value row b ≡ true → a ≡ negated b
-other_sign row a b var no yes = ⊎_elim (λ same. absurd (false≢true (sym no ∙ ap (value row) same ∙ yes))) (λ other. other) (cases a b var)
+other_sign row a b var zero_at one_at =
+    ⊎_elim (λ same. absurd (false≢true (sym zero_at ∙ ap (value row) same ∙ one_at))) (λ other. other) (cases a b var)
   where
-    cases : (a b : ℕ) → variable a ≡ variable b → (a ≡ b) ⊎ (a ≡ negated b)
-    cases a b var = ⊎_elim (λ same. inl (omega arith)) (λ other. inr (by_sign a b var other)) (cases_eq (a % 2) (b % 2))
-
     by_sign : (a b : ℕ) → variable a ≡ variable b → (a % 2 ≡ b % 2 → ⊥) → a ≡ negated b
     by_sign a b var other = grind (arith, nat_tests)
+
+    cases : (a b : ℕ) → variable a ≡ variable b → (a ≡ b) ⊎ (a ≡ negated b)
+    cases a b var = ⊎_elim (λ same. inl (omega arith)) (λ other. inr (by_sign a b var other)) (cases_eq (a % 2) (b % 2))
 
 -- a latch whose literal of the row is this one
 record IsUnmet (n : Netlist) (row : List Bool) (l : ℕ) : Type 0 where
@@ -128,12 +130,19 @@ module _ (n : Netlist) (sound : IsSound n) (row : List Bool) where
       let m = map_cases (unmet_literal row) n.latches c.0 l at in
       record { place = c.0; latch = m.0; latch_is = m.1; literal = m.2 }
 
-  to_literals : (k : ℕ) (latch : Latch) → slice_get n.latches k ≡ Some latch
+  pub to_literals : (k : ℕ) (latch : Latch) → slice_get n.latches k ≡ Some latch
       → Contains (unmet_literals n row) (unmet_literal row latch)
   to_literals k latch is =
       let l = unmet_literal row latch in
       let at = get_map (unmet_literal row) n.latches k latch is in
       (k, slice_get_within (unmet_literals n row) k l at, get_or_from_slice_get (unmet_literals n row) k l l at)
+
+  -- one literal more
+  pub among_pushed : (lits : List ℕ) (k : ℕ) (latch : Latch) → slice_get n.latches k ≡ Some latch → IsAmongUnmet n row lits
+      → IsAmongUnmet n row (lits ++ unmet_literal row latch ∷ [])
+  among_pushed lits k latch is among l c =
+      ⊎_elim (λ old. among l old) (λ same. subst (Contains (unmet_literals n row)) same (to_literals k latch is))
+      (Contains-push_cases lits (unmet_literal row latch) l c)
 
   -- each literal over a latch that is 1 has its negation among them
   pub has_unmet : HasUnmet (circuit n) row (unmet_literals n row)

@@ -179,7 +179,7 @@ module _ (c : Circuit) (values : List Bool) (clause : List ℕ) (sure : List Boo
       carried c acyclic (λ _. Unit {0}) (λ g rights e. (tt, tt)) (bit sure) (value v) (bits_go_by_rule c values clause sure row)
       (values_go_by_rule c s (input_row c values) v now) sure_leaf l tt
 
-passes_each : (p : ℕ → Bool) (xs : List ℕ) → list_all p xs ≡ true → All (λ x. p x ≡ true) xs
+pub passes_each : (p : ℕ → Bool) (xs : List ℕ) → list_all p xs ≡ true → All (λ x. p x ≡ true) xs
 passes_each p xs all k d within = ⊎_elim (λ t. t)
     (λ f. absurd (false≢true (sym (list_all_at p xs k d within f) ∙ all))) (cases_Bool (p (get_or xs k d)))
 
@@ -216,17 +216,17 @@ some_fails p [] e = absurd cc
 some_fails p (x ∷ xs) e = ⊎_elim (λ here. (0, x, omega arith, refl, here))
     (λ later. let r = some_fails p xs later in (suc r.0, r.1, omega (arith, r.2), r.3, r.4)) (and_cases (p x) (list_all p xs) e)
 
+pub all_pass_each : (p : ℕ → Bool) (xs : List ℕ) → All (λ x. p x ≡ true) xs → list_all p xs ≡ true
+all_pass_each p [] h = refl
+all_pass_each p (y ∷ ys) h = and_from (p y) (list_all p ys) (h 0 0 (omega arith))
+    (all_pass_each p ys (All-tail (λ x. p x ≡ true) y ys h))
+
 fewer_fail : (p q : ℕ → Bool) (xs : List ℕ) → ((x : ℕ) → p x ≡ true → q x ≡ true) → list_all q xs ≡ false
     → list_all p xs ≡ false
 fewer_fail p q xs each fails = false_from_ne_true (list_all p xs) (λ all.
-    let e : list_all q xs ≡ true = list_all_from q xs
-    (All-weaker (λ x. p x ≡ true) (λ x. q x ≡ true) each xs (passes_each p xs all)) in
+    let e : list_all q xs ≡ true =
+    all_pass_each q xs (All-weaker (λ x. p x ≡ true) (λ x. q x ≡ true) each xs (passes_each p xs all)) in
     false≢true (sym fails ∙ e))
-  where
-    list_all_from : (q : ℕ → Bool) (ys : List ℕ) → All (λ x. q x ≡ true) ys → list_all q ys ≡ true
-    list_all_from q [] h = refl
-    list_all_from q (y ∷ ys) h = and_from (q y) (list_all q ys) (h 0 0 (omega arith))
-        (list_all_from q ys (All-tail (λ x. q x ≡ true) y ys h))
 
 -- where a clause leaves some target literal unsure, each part of it does
 pub part_leaves_unsure : (c : Circuit) (values : List Bool) (part whole target : List ℕ) (less more : List Bool) → IsAcyclic c

@@ -64,7 +64,8 @@ fn drops(design: &Design, target: &[Lit], lit: Lit, sure: &mut Row) -> bool
     let at = lit.not().number();
     sure.set(at, false);
     settle(design, sure);
-    if are_sure(sure, target) {
+    let enough = are_sure(sure, target);
+    if enough {
         return true;
     }
     sure.set(at, true);

@@ -75,6 +75,7 @@ fn push_needed(
     needed: &Row,
     lits: &mut Lits,
 ) -> Result<(), Memory>
+    requires sound { IsSound design.now }
     requires at { at < length design.now.latches }
     requires vals { length vals.now ≡ design.now.vars + 1 }
     requires needed { length needed.now ≡ design.now.vars + 1 }

@@ -10,6 +10,8 @@ mod lifting;
 mod rows;
 mod sure;
 mod targets;
+#[cfg(test)]
+mod tests;
 
 pub use dropping::lift;
 pub use failing::failure_of;

@@ -61,9 +61,10 @@ pub fn lifted(
     ensures chain { IfOk result (λ cube. cube.chain
         ≡ input_row (circuit coded.now.design) vals.now ∷ chain.now) }
 {
+    let design = coded.task().design();
     let target = step_target(alloc, coded, clause)?;
-    let clause = lift(alloc, coded.task().design(), vals, target.as_slice())?;
-    let input = input_of(alloc, coded.task().design(), vals)?;
+    let clause = lift(alloc, design, vals, target.as_slice())?;
+    let input = input_of(alloc, design, vals)?;
     let chain = extended(alloc, input, chain)?;
     Ok(Cube { clause, chain })
 }
@@ -84,9 +85,10 @@ pub fn lifted_bad(alloc: Global, coded: &Coded, prop: u32, vals: &Row) -> Result
         (λ cube. AllLead (problem coded.now) prop cube.clause cube.chain) }
     ensures chain { IfOk result (λ cube. length cube.chain ≡ 1) }
 {
+    let design = coded.task().design();
     let target = bad_target(alloc, coded, prop)?;
-    let clause = lift(alloc, coded.task().design(), vals, target.as_slice())?;
-    let input = input_of(alloc, coded.task().design(), vals)?;
+    let clause = lift(alloc, design, vals, target.as_slice())?;
+    let input = input_of(alloc, design, vals)?;
     let chain = Rows::one(alloc, input)?;
     Ok(Cube { clause, chain })
 }

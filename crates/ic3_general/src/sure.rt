@@ -20,6 +20,7 @@ fn put_variable(vals: &Row, var: u32, sure: &mut Row)
     ensures put { (l : ℕ) → variable l ≡ var → bit sure.new l ≡ value vals.now l }
     ensures others { (l : ℕ) → variable l < var → bit sure.new l ≡ bit sure.old l }
 {
+    let _width = sure.len();
     let bit = vals.get(var);
     sure.set(2 * var, bit);
     sure.set(2 * var + 1, !bit);
@@ -93,6 +94,7 @@ pub(crate) fn settle(design: &Design, sure: &mut Row)
     ensures sure { (values : List Bool) (clause : List ℕ)
         → HasLeaves (circuit design.now) values clause sure.old
         → IsSureRow (circuit design.now) values clause sure.new }
+    ensures sound { IsSound design.now }
 {
     put_gates(design, sure);
 }

@@ -3,13 +3,18 @@
 ghost use Rattle.std.specs.Prelude.{◌≡◌, ◌+◌, ◌<◌, ◌++◌, ◌∷◌, ℕ, Bool, List, true, false, length, slice_index, IfOk, OnOk};
 ghost use Rattle.ja_base.specs.Literals.{variable};
 ghost use Rattle.ja_base.specs.Clauses.{IsBelow};
-ghost use Rattle.aig_model.specs.Netlist.{IsSound};
-ghost use Rattle.ja_project.specs.CodedClauses.{held_literals, negated_next, next_literal};
+ghost use Rattle.ja_project.specs.CodedClauses.{held_literals, negated_next, next_literal, with_sign_of};
 
 use aig_model::Design;
 use ja_base::{Clause, Lit, Lits, Memory};
 use ja_project::Coded;
 use std::alloc::Global;
+
+fn with_sign_of(lit: Lit, next: Lit) -> Lit
+    ensures { result ≡ with_sign_of lit next }
+{
+    if lit.is_neg() { next.not() } else { next }
+}
 
 // The literals of a chain's clause may be over no latch, and so are looked for.
 fn next_of(design: &Design, lit: Lit) -> Lit
@@ -17,8 +22,8 @@ fn next_of(design: &Design, lit: Lit) -> Lit
 {
     for at in 0..design.latches() {
         let latch = design.latch(at);
-        if latch.lit.var() == lit.var() {
-            return if lit.is_neg() { latch.next.not() } else { latch.next };
+        if latch.lit.var().number() == lit.var().number() {
+            return with_sign_of(lit, latch.next);
         }
     }
     Lit(0)
@@ -34,8 +39,7 @@ fn push_nexts(design: &Design, clause: &Clause, lits: &mut Lits) -> Result<(), M
 }
 
 fn push_constraints(design: &Design, lits: &mut Lits) -> Result<(), Memory>
-    ensures ok { OnOk result (lits.new ≡ lits.old ++ design.now.constraints) }
-    ensures sound { IsSound design.now }
+    ensures { OnOk result (lits.new ≡ lits.old ++ design.now.constraints) }
 {
     for at in 0..design.constraints() {
         lits.push(design.constraint(at))?;
