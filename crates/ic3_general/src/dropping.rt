@@ -126,12 +126,7 @@ fn needed_literals(
 
 /// The clause of a cube around the latch row of a step, from each row of which the inputs of the step make each target literal
 /// 1. No literal of it can be dropped by the three-valued rule.
-pub fn lift(
-    alloc: Global,
-    design: &Design,
-    vals: &Row,
-    target: &[Lit],
-) -> Result<Clause, Memory>
+pub fn lift(alloc: Global, design: &Design, vals: &Row, target: &[Lit]) -> Result<Clause, Memory>
     requires step { IsValuation (circuit design.now) (latch_row (circuit design.now) vals.now)
         (input_row (circuit design.now) vals.now) vals.now }
     requires below { IsBelow (design.now.vars + 1) target.now }

@@ -7,7 +7,7 @@ use Rattle.ic3_general.specs.Dropping.{IsKept}
 use Rattle.ic3_general.proofs.DropLemmas.{is_dropped, is_kept}
 use Rattle.ic3_general.proofs.dropping.drops.Goals as goal
 
-pub returns-then-enough-clause-dropped : goal.returns-then-are_sure-clause-dropped
+pub returns-then-enough-clause-dropped : goal.returns-then-enough-clause-dropped
 returns-then-enough-clause-dropped c =
     let n = c.args.design.now in
     let cleared : c.set.new.self ≡ set c.args.sure.now (negated c.args.lit) false =
