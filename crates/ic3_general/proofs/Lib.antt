@@ -6,3 +6,4 @@ pub mod RangeLemmas
 pub mod LeafLemmas
 pub mod DropLemmas
 pub mod TargetLemmas
+pub mod ShrinkLemmas

@@ -2,3 +2,4 @@ pub mod Cubes
 pub mod Chains
 pub mod Lifting
 pub mod Dropping
+pub mod Shrinking

@@ -8,6 +8,7 @@ mod failing;
 mod justifying;
 mod lifting;
 mod rows;
+mod shrinking;
 mod sure;
 mod targets;
 #[cfg(test)]
@@ -16,4 +17,5 @@ mod tests;
 pub use dropping::lift;
 pub use failing::failure_of;
 pub use lifting::{Cube, lifted, lifted_bad};
+pub use shrinking::shrink;
 pub use sure::sure_into;

@@ -1,13 +1,13 @@
 -- What a refuted question says of each step, and what a row that meets it is.
 use Rattle.std.proofs.Common.{◌≡◌, ℕ, suc, zero, ◌+◌, ◌-◌, ◌≤◌, ◌<◌, Bool, true, false, List, [], ◌∷◌, ◌++◌, length, map, get_or, nat_le, refl, sym, ap, subst, ◌∙◌, arith}
 use Rattle.std.specs.List.{list_any, range_with_len, All}
-use Rattle.std.specs.Prelude.{Option, Some, None}
+use Rattle.std.specs.Prelude.{Option, Some, None, Contains}
 use Rattle.std.proofs.lemmas.Bool.Decides.{nat_tests}
 use Rattle.std.proofs.lemmas.List.{length-append, get_or_append_left, get_or-append-add}
 use Rattle.std.proofs.lemmas.Option.{slice_get-get_or}
-use Rattle.std.proofs.lemmas.List.Elements.{All-append, All-push, All-map, All-from_recursion}
+use Rattle.std.proofs.lemmas.List.Elements.{All-append, All-contains, All-push, All-map, All-from_recursion}
 use Rattle.std.proofs.lemmas.List.FromFn.{length-map-range_with_len, get_or-map-range_with_len, length-range_with_len, get_or-range_with_len}
-use Rattle.ja_base.specs.Literals.{bit, variable, value, SatisfiedBy, AllSatisfiedBy}
+use Rattle.ja_base.specs.Literals.{bit, variable, negated, value, SatisfiedBy, AllSatisfiedBy}
 use Rattle.ja_base.specs.Circuit as plain
 use Rattle.ja_base.specs.Circuit.{bad_literal}
 use Rattle.ja_base.specs.Valuation.{IsValuation, latch_row, next_state, MeetsConstraints}
@@ -16,7 +16,7 @@ use Rattle.ja_base.proofs.JoinLemmas.{first_is_part, second_is_part}
 use Rattle.aig_model.specs.Netlist.{Netlist, IsSound, circuit}
 use Rattle.aig_model.specs.Task.{VerificationTask}
 use Rattle.sat_plain.specs.Probed.{Closes, IsFront}
-use Rattle.ja_project.specs.CodedClauses.{coded_clauses, held_literals, negated_next}
+use Rattle.ja_project.specs.CodedClauses.{coded_clauses, held_literals, negated_next, next_literal}
 use Rattle.ja_project.specs.Meaning.{IsLegalStep}
 use Rattle.ja_project.specs.Latches.{is_foreign}
 use Rattle.ja_project.proofs.BelowLemmas.{clauses_are_below, lit_is_below}
@@ -27,12 +27,13 @@ use Rattle.aig_eval.specs.Rows.{IsClear}
 use Rattle.inv_cert.proofs.InductionLemmas.{All-part}
 use Rattle.ic3_frames.specs.Levels.{Entry, Levels}
 use Rattle.ic3_frames.specs.Soundness.{Meets, IsIn}
-use Rattle.ic3_query.specs.Known.{IsKept}
-use Rattle.ic3_query.specs.Questions.{IsStep, IsBefore, IsKeptAt, IsBadRow, IsGoodFrom, IsRoom, IsAnswered}
+use Rattle.ic3_frames.proofs.GainLemmas.{meets_more}
+use Rattle.ic3_query.specs.Questions.{IsStep, IsBefore, IsKeptAt, IsPartFor, IsBlockedBy, IsKnownBlockedBy, IsBadRow, IsGoodFrom, IsRoom, IsAnswered}
 use Rattle.ic3_query.specs.Serving.{Serves}
 use Rattle.ic3_query.specs.Switches.{switch_var, switch, IsOn, IsExactly}
 use Rattle.ic3_query.specs.Under.{switches, step_literals, bad_literals}
 use Rattle.ic3_query.proofs.RowLemmas.{AreSame, value_positive, value_same, all_same, lits_same, same_latches, same_nexts, all_of_part, met_in_row, met_by_latches}
+use Rattle.ic3_query.proofs.CoreLemmas.{core_holds, whole_part, All-unmap}
 use Rattle.ic3_query.proofs.ServeLemmas.{first_part, last_part}
 
 -- ---- the switches of a question
@@ -130,10 +131,11 @@ module _ (t : VerificationTask) (known : List (List ℕ)) (f : Levels) (count : 
 
   -- ---- no step
 
-  pub kept_where_closed : (clause core : List ℕ) → is_foreign (circuit t.design) clause ≡ false
-      → Closes count (clauses ++ clause ∷ []) (step_literals t k f.top clause) core → IsKeptAt t known f k clause
-  kept_where_closed clause core own closes s x v now known_met there meets constrained held =
-      by_case (list_any (latch_value (circuit t.design).latches (next_state (circuit t.design) v)) clause) refl
+  pub part_where_closed : (clause core part : List ℕ) → is_foreign (circuit t.design) clause ≡ false
+      → Closes count (clauses ++ clause ∷ []) (step_literals t k f.top clause) core
+      → IsPartFor t.design core clause part → IsKeptAt t known f k part
+  part_where_closed clause core part own closes is s x v now known_met there meets constrained held =
+      by_case (list_any (latch_value (circuit t.design).latches (next_state (circuit t.design) v)) part) refl
     where
       c : plain.Circuit
       c = circuit t.design
@@ -152,28 +154,41 @@ module _ (t : VerificationTask) (known : List (List ℕ)) (f : Levels) (count : 
           lits_same (t.design.vars + 1) (row_of v) v (held_literals t) (same_row s x v h) (held_is_below t sound)
           ((held_means_assumptions t expected v).1 held)
 
-      of_later : list_any (latch_value c.latches (next_state c v)) clause ≡ false → All P (negated_next t.design clause)
+      of_later : list_any (latch_value c.latches (next_state c v)) part ≡ false → All P (negated_next t.design part)
       of_later e =
-          All-from_recursion P (negated_next t.design clause) (obliged t.design (row_of v) clause zero_bit
-          (ap (λ (state : List Bool). list_any (latch_value c.latches state) clause)
+          All-from_recursion P (negated_next t.design part) (obliged t.design (row_of v) part zero_bit
+          (ap (λ (state : List Bool). list_any (latch_value c.latches state) part)
           (same_nexts t.design sound (row_of v) v (same_row s x v h)) ∙ e))
+
+      of_part : list_any (latch_value c.latches (next_state c v)) part ≡ false → (l : ℕ) → Contains part l
+          → P (negated (next_literal t.design.latches l))
+      of_part e l there =
+          All-contains (λ m. P (negated (next_literal t.design.latches m))) part l
+          (All-unmap P (λ m. negated (next_literal t.design.latches m)) part (of_later e)) there
 
       extra_met : list_any (value (row_of v)) clause ≡ true
       extra_met =
           let Q : List Bool → Type 0 = λ state. Meets c state clause in
-          met_in_row c (row_of v) clause own (subst Q (sym (from_state s x v h)) meets)
+          met_in_row c (row_of v) clause own (subst Q (sym (from_state s x v h))
+          (meets_more (latch_value c.latches s) part clause is.within meets))
 
-      by_case : (b : Bool) → list_any (latch_value c.latches (next_state c v)) clause ≡ b → b ≡ true
+      by_case : (b : Bool) → list_any (latch_value c.latches (next_state c v)) part ≡ b → b ≡ true
       by_case true e = refl
       by_case false e =
           absurd (closes.refuted (row_of v) (record {
             width = row_length s x v h;
             clauses_hold = All-push (SatisfiedBy (value (row_of v))) clauses clause (fits_step s x v h) extra_met;
-            under_holds = all_of_part P core (step_literals t k f.top clause) closes.part
-                (All-append P (switches t.design k f.top ++ held_literals t) (negated_next t.design clause)
+            under_holds = core_holds P t.design (switches t.design k f.top ++ held_literals t) core clause part closes.part is
                 (All-append P (switches t.design k f.top) (held_literals t) (switches_on t.design v k f.top now.width) of_held)
-                (of_later e));
+                (of_part e);
           }))
+
+  pub blocked_where_closed : (clause core : List ℕ) → is_foreign (circuit t.design) clause ≡ false
+      → Closes count (clauses ++ clause ∷ []) (step_literals t k f.top clause) core → IsBlockedBy t known f k clause core
+  blocked_where_closed clause core own closes = record {
+    kept = part_where_closed clause core clause own closes (whole_part t.design core clause);
+    parts = λ part is. part_where_closed clause core part own closes is;
+  }
 
   pub good_where_closed : (p : ℕ) (core : List ℕ) → p < length t.design.bads
       → Closes count clauses (bad_literals t k f.top p) core → IsGoodFrom t known f k p
@@ -307,10 +322,10 @@ module _ (t : VerificationTask) (known : List (List ℕ)) (f : Levels) (count : 
 
   pub step_refuted : (clause under core : List ℕ) (among : Option (List ℕ)) (row : List Bool) (answer : Option (List ℕ))
       → is_foreign (circuit t.design) clause ≡ false → under ≡ step_literals t k f.top clause
-      → IsAnswered count (clauses ++ clause ∷ []) under among row answer → answer ≡ Some core → IsKeptAt t known f k clause
+      → IsAnswered count (clauses ++ clause ∷ []) under among row answer → answer ≡ Some core → IsBlockedBy t known f k clause core
   step_refuted clause under core among row answer own is h e =
       let P : List ℕ → Type 0 = λ lits. Closes count (clauses ++ clause ∷ []) lits core in
-      kept_where_closed clause core own (subst P is (closes_of (clauses ++ clause ∷ []) under core among row answer h e))
+      blocked_where_closed clause core own (subst P is (closes_of (clauses ++ clause ∷ []) under core among row answer h e))
 
   pub step_found : (clause under : List ℕ) (row : List Bool) (answer : Option (List ℕ))
       → is_foreign (circuit t.design) clause ≡ false
@@ -379,14 +394,16 @@ pub known_refuted : (t : VerificationTask) (known : List (List ℕ)) (f : Levels
     (among : Option (List ℕ)) (row : List Bool) (answer : Option (List ℕ)) → is_foreign (circuit t.design) clause ≡ false
     → under ≡ step_literals t k f.top clause → IsAnswered count (clauses ++ clause ∷ []) under among row answer
     → answer ≡ Some core
-    → k ≡ f.top + 1 → IsKept (circuit t.design) t.expected known clause
+    → k ≡ f.top + 1 → IsKnownBlockedBy t known clause core
 known_refuted t known f count clauses sound expected serves k clause under core among row answer own is h e high =
     let j : ℕ = suc (f.top + total f.kept) in
     let literals = is ∙ same_above t f.top k j clause (omega (arith, high)) (omega arith) in
-    λ s x v now meets there constrained held.
-    step_refuted t known f count clauses sound expected serves j clause under core among row answer own literals h e s x v now
-    meets
-    (none_above (circuit t.design) f.kept f.top s) there constrained held
+    let blocked = step_refuted t known f count clauses sound expected serves j clause under core among row answer own literals h e in
+    record {
+      kept = λ s x v now met there. blocked.kept s x v now met (none_above (circuit t.design) f.kept f.top s) there;
+      parts = λ part in_part s x v now met there.
+          blocked.parts part in_part s x v now met (none_above (circuit t.design) f.kept f.top s) there;
+    }
 
 pub known_before : (t : VerificationTask) (known : List (List ℕ)) (f : Levels) (k : ℕ) (clause : List ℕ) (values : List Bool)
     → IsBefore t known f k clause values → k ≡ f.top + 1 → IsBefore t known f (f.top + 1) clause values

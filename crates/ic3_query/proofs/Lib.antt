@@ -3,6 +3,7 @@ pub mod ServeLemmas
 pub mod OpenLemmas
 pub mod KnownLemmas
 pub mod KnownViews
+pub mod CoreLemmas
 pub mod AnswerLemmas
 pub mod FitLemmas
 pub mod ProvingLemmas

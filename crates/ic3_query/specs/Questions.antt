@@ -1,12 +1,15 @@
 -- What the questions of a search answer. The values of a step are the answer: they have a bit for each variable of the design.
-use Rattle.std.specs.Prelude.{◌≡◌, ℕ, ◌+◌, Bool, true, false, Option, Some, None, List, length, All}
+use Rattle.std.specs.Prelude.{◌≡◌, ℕ, ◌+◌, Bool, true, false, Option, Some, None, List, length, All, Contains}
 use Rattle.std.specs.List.{list_any}
 use Rattle.ja_base.specs.Circuit.{Circuit}
+use Rattle.ja_base.specs.Clauses.{is_part}
+use Rattle.ja_base.specs.Literals.{negated}
 use Rattle.ja_base.specs.Valuation.{IsValuation, latch_row, input_row, next_state, IsBad, IsGood, MeetsConstraints, AssumptionsHold}
 use Rattle.ja_base.specs.Invariants.{latch_value, MeetsClauses}
 use Rattle.aig_model.specs.Netlist.{Netlist, circuit}
 use Rattle.aig_model.specs.Task.{VerificationTask}
 use Rattle.aig_eval.specs.Rows.{IsClear}
+use Rattle.ja_project.specs.CodedClauses.{next_literal}
 use Rattle.ja_project.specs.Latches.{is_foreign}
 use Rattle.sat_plain.specs.Probed.{Closes, IsOpen}
 use Rattle.ic3_frames.specs.Levels.{Levels, Entry}
@@ -48,18 +51,36 @@ IsKeptAt t known f k clause = (s x v : List Bool) → IsValuation (circuit t.des
     → AssumptionsHold (circuit t.design) t.expected v
     → Meets (circuit t.design) (next_state (circuit t.design) v) clause
 
+-- a part of the clause with each of its literals whose negation one step later the core rests on
+pub record IsPartFor (n : Netlist) (core clause part : List ℕ) : Type 0 where
+  pub within : is_part part clause ≡ true
+  pub needed : (l : ℕ) → Contains clause l → Contains core (negated (next_literal n.latches l))
+      → Contains part l
+
+-- the clause is kept by each step from the level, and so is each part of it that has what the core rests on
+pub record IsBlockedBy (t : VerificationTask) (known : List (List ℕ)) (f : Levels) (k : ℕ)
+    (clause core : List ℕ) : Type 0 where
+  pub kept : IsKeptAt t known f k clause
+  pub parts : (part : List ℕ) → IsPartFor t.design core clause part → IsKeptAt t known f k part
+
+-- the same where no level counts, but only what is known
+pub record IsKnownBlockedBy (t : VerificationTask) (known : List (List ℕ))
+    (clause core : List ℕ) : Type 0 where
+  pub kept : IsKept (circuit t.design) t.expected known clause
+  pub parts : (part : List ℕ) → IsPartFor t.design core clause part
+      → IsKept (circuit t.design) t.expected known part
+
 -- the values of a step out of the clause, or that there is none
 abbrev pub AnswersFor : VerificationTask → List (List ℕ) → Levels → ℕ → List ℕ → List Bool
     → Asked → Type 0
 AnswersFor t known f k clause values Before = IsBefore t known f k clause values
-AnswersFor t known f k clause values (Blocked core) = IsKeptAt t known f k clause
+AnswersFor t known f k clause values (Blocked core) = IsBlockedBy t known f k clause core
 
 -- the same where no level counts, but only what is known
 abbrev pub KnownAnswersFor : VerificationTask → List (List ℕ) → Levels → List ℕ → List Bool
     → Asked → Type 0
 KnownAnswersFor t known f clause values Before = IsBefore t known f (f.top + 1) clause values
-KnownAnswersFor t known f clause values (Blocked core) =
-    IsKept (circuit t.design) t.expected known clause
+KnownAnswersFor t known f clause values (Blocked core) = IsKnownBlockedBy t known clause core
 
 -- a step from a row of the level that breaks the property; nothing is assumed
 pub record IsBadRow (t : VerificationTask) (known : List (List ℕ)) (f : Levels) (k p : ℕ)

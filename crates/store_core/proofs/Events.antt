@@ -22,7 +22,7 @@ use Rattle.store_core.specs.declared.mark.Mark.TheVariants as mark
 use Rattle.store_core.specs.Steps.{State, kept, mark_of, job_of, can_cancel, state_after, draw_reply, drawn, cancelled, settled, settled_clauses, settle_reply, given_up, give_up_reply}
 use Rattle.store_core.specs.MarkKinds.{is_failing}
 use Rattle.store_core.specs.History.{entry_of}
-use Rattle.store_core.specs.Boards.{BoardValue, IsBoard, IsStopped, Did, failed_by}
+use Rattle.store_core.specs.Boards.{BoardValue, IsBoard, IsStopped, Did, AsksWithin, failed_by}
 use Rattle.store_core.proofs.Reasons.{Grows}
 use Rattle.store_core.proofs.NextBoards.{IsNext, next_board, unmarked, marked, mark_set, mark_stays, fail_later, none_of_free, shown_new, shown_later}
 
@@ -31,13 +31,14 @@ pub board_behind : (covers : Problem → List (List ℕ) → ℕ
     → Type 0) (bound : Problem → ℕ) (t : Problem) (o : Opening) (s next : State)
     (failures more : List Failure) (journal after : List Entry) (seat : ℕ) (event : Event) (e : Entry)
     → IsBoard covers bound t o s failures journal → next ≡ state_after o s (kept s event) → e ≡ entry_of o s seat event
-    → after ≡ journal ++ e ∷ [] → IsNext covers bound t o s next failures more journal e
+    → after ≡ journal ++ e ∷ [] → AsksWithin (length o.assumed) e → IsNext covers bound t o s next failures more journal e
     → IsBoard covers bound t o next more after
-board_behind covers bound t o s next failures more journal after seat event e b next_is entry_is after_is h =
+board_behind covers bound t o s next failures more journal after seat event e b next_is entry_is after_is asks h =
     let P : State → Type 0 = λ n. IsNext covers bound t o s n failures more journal e in
     let Q : Entry → Type 0 = λ x. IsNext covers bound t o s (state_after o s (kept s event)) failures more journal x in
     let board : IsBoard covers bound t o (state_after o s (kept s event)) more (journal ++ entry_of o s seat event ∷ []) =
-    next_board covers bound t o s failures journal seat event b more (subst Q entry_is (subst P next_is h)) in
+    next_board covers bound t o s failures journal seat event b more (subst (AsksWithin (length o.assumed)) entry_is asks)
+    (subst Q entry_is (subst P next_is h)) in
     let R : Entry → Type 0 = λ x. IsBoard covers bound t o (state_after o s (kept s event)) more (journal ++ x ∷ []) in
     let S : State → Type 0 = λ n. IsBoard covers bound t o n more (journal ++ e ∷ []) in
     let U : List Entry → Type 0 = λ es. IsBoard covers bound t o next more es in
@@ -161,10 +162,10 @@ module _ (covers : Problem → List (List ℕ) → ℕ → Type 0) (bound : Prob
   -- no mark, no clause and no Cancel more
   quiet : (next : State) (event : Event) (e : Entry) → next ≡ state_after o s (kept s event) → e ≡ entry_of o s seat event
       → next.marks ≡ s.marks → next.clauses ≡ s.clauses → next.cancel ≡ s.cancel → failed_by e.event e.reply ≡ []
-      → after ≡ journal ++ e ∷ [] → IsBoard covers bound t o next failures after
-  quiet next event e next_is entry_is marks clauses cancel free after_is =
+      → after ≡ journal ++ e ∷ [] → AsksWithin (length o.assumed) e → IsBoard covers bound t o next failures after
+  quiet next event e next_is entry_is marks clauses cancel free after_is asks =
       let P : List (List ℕ) → Type 0 = λ more. All (Contains more) s.clauses in
-      board_behind covers bound t o s next failures failures journal after seat event e b next_is entry_is after_is
+      board_behind covers bound t o s next failures failures journal after seat event e b next_is entry_is after_is asks
       (unmarked covers bound grows t o s next failures journal e b marks (subst P (sym clauses) (all_kept s.clauses))
       (λ q stands. inl (sym cancel ∙ stands)) free)
 
@@ -176,7 +177,7 @@ module _ (covers : Problem → List (List ℕ) → ℕ → Type 0) (bound : Prob
       let is : e ≡ entry_of o s seat Draw =
       ap (λ n. record { seat = seat; event = Draw; reply = reply.Job p n }) count
       ∙ ap (λ j. record { seat = seat; event = Draw; reply = draw_reply j (length s.clauses) }) (sym job) in
-      quiet (record s { place = s.place + 1 }) Draw e (ap (λ j. drawn j s) (sym job)) is refl refl refl refl after_is
+      quiet (record s { place = s.place + 1 }) Draw e (ap (λ j. drawn j s) (sym job)) is refl refl refl refl after_is tt
 
   pub draws_none : (upto : ℕ) → job_of o s ≡ None → upto ≡ length s.clauses
       → after ≡ journal ++ record { seat = seat; event = Draw; reply = reply.NoJob upto } ∷ []
@@ -186,7 +187,7 @@ module _ (covers : Problem → List (List ℕ) → ℕ → Type 0) (bound : Prob
       let is : e ≡ entry_of o s seat Draw =
       ap (λ n. record { seat = seat; event = Draw; reply = reply.NoJob n }) count
       ∙ ap (λ j. record { seat = seat; event = Draw; reply = draw_reply j (length s.clauses) }) (sym job) in
-      quiet s Draw e (ap (λ j. drawn j s) (sym job)) is refl refl refl refl after_is
+      quiet s Draw e (ap (λ j. drawn j s) (sym job)) is refl refl refl refl after_is tt
 
   pub imports : (upto : ℕ) → upto ≡ length s.clauses
       → after ≡ journal ++ record { seat = seat; event = Import; reply = reply.Clauses upto } ∷ []
@@ -194,7 +195,7 @@ module _ (covers : Problem → List (List ℕ) → ℕ → Type 0) (bound : Prob
   imports upto count after_is =
       let e : Entry = record { seat = seat; event = Import; reply = reply.Clauses upto } in
       let is : e ≡ entry_of o s seat Import = ap (λ n. record { seat = seat; event = Import; reply = reply.Clauses n }) count in
-      quiet s Import e refl is refl refl refl refl after_is
+      quiet s Import e refl is refl refl refl refl after_is tt
 
   pub longer_part : (more part : List (List ℕ)) → more ≡ joined s.clauses part → All (Contains more) s.clauses
   longer_part more part is =
@@ -209,16 +210,16 @@ module _ (covers : Problem → List (List ℕ) → ℕ → Type 0) (bound : Prob
       let entry_is : e ≡ entry_of o s seat (Publish part) = publish_entry o s seat more part added upto is new count in
       let next_is : record s { clauses = more } ≡ state_after o s (kept s (Publish part)) = publish_state o s seat more part is in
       board_behind covers bound t o s (record s { clauses = more }) failures failures journal after seat
-      (Publish part) e b next_is entry_is after_is
+      (Publish part) e b next_is entry_is after_is tt
       (unmarked covers bound grows t o s (record s { clauses = more }) failures journal e b refl (longer_part more part is)
       (λ q stands. inl stands) refl)
 
   -- ---- marks that stand
 
-  pub keeps_mark : (p : ℕ) (had m : Mark) → mark_of s.marks p ≡ Some had
+  pub keeps_mark : (p : ℕ) (had m : Mark) → p < length o.assumed → mark_of s.marks p ≡ Some had
       → after ≡ journal ++ record { seat = seat; event = Settle p m []; reply = reply.Had had } ∷ []
       → IsBoard covers bound t o s failures after
-  keeps_mark p had m stands after_is =
+  keeps_mark p had m within stands after_is =
       let e : Entry = record { seat = seat; event = Settle p m []; reply = reply.Had had } in
       let entry_is : e ≡ entry_of o s seat (Settle p m []) =
       ap (λ (x : Option Mark). record {
@@ -229,13 +230,14 @@ module _ (covers : Problem → List (List ℕ) → ℕ → Type 0) (bound : Prob
       let next_is : s ≡ state_after o s (kept s (Settle p m [])) =
       ap (λ (x : Option Mark). settled x s p m (settled_clauses x m s.clauses [])) (sym stands) in
       quiet s (Settle p m []) e next_is entry_is refl refl refl (failed_by_had p m had) after_is
+      within
 
   -- ---- a Cancel
 
-  pub cancels : (p : ℕ) → can_cancel o s p ≡ true
+  pub cancels : (p : ℕ) → p < length o.assumed → can_cancel o s p ≡ true
       → after ≡ journal ++ record { seat = seat; event = Cancel p; reply = reply.Cancelled } ∷ []
       → IsBoard covers bound t o (record s { cancel = Some p }) failures after
-  cancels p can after_is =
+  cancels p within can after_is =
       let e : Entry = record { seat = seat; event = Cancel p; reply = reply.Cancelled } in
       let entry_is : e ≡ entry_of o s seat (Cancel p) =
       ap (λ c. record { seat = seat; event = Cancel p; reply = cond c reply.Cancelled reply.NotNow }) (sym can) in
@@ -248,31 +250,31 @@ module _ (covers : Problem → List (List ℕ) → ℕ → Type 0) (bound : Prob
       } in
       let P : ℕ → Type 0 = λ q. IsStopped o (record s { cancel = Some p }) (journal ++ e ∷ []) q in
       board_behind covers bound t o s (record s { cancel = Some p }) failures failures journal after seat (Cancel p) e b next_is
-      entry_is after_is
+      entry_is after_is within
       (unmarked covers bound grows t o s (record s { cancel = Some p }) failures journal e b refl (all_kept s.clauses)
       (λ q stands. inr (subst P (same_Some p q stands) here)) refl)
 
-  pub cancels_not : (p : ℕ) → can_cancel o s p ≡ false
+  pub cancels_not : (p : ℕ) → p < length o.assumed → can_cancel o s p ≡ false
       → after ≡ journal ++ record { seat = seat; event = Cancel p; reply = reply.NotNow } ∷ []
       → IsBoard covers bound t o s failures after
-  cancels_not p can after_is =
+  cancels_not p within can after_is =
       let e : Entry = record { seat = seat; event = Cancel p; reply = reply.NotNow } in
       let entry_is : e ≡ entry_of o s seat (Cancel p) =
       ap (λ c. record { seat = seat; event = Cancel p; reply = cond c reply.Cancelled reply.NotNow }) (sym can) in
       let next_is : s ≡ state_after o s (kept s (Cancel p)) = ap (λ c. cancelled c s p) (sym can) in
-      quiet s (Cancel p) e next_is entry_is refl refl refl refl after_is
+      quiet s (Cancel p) e next_is entry_is refl refl refl refl after_is within
 
   -- ---- properties that are given up
 
-  pub goes_on : (p : ℕ) (r : Reply) → r ≡ give_up_reply (mark_of s.marks p) s.cancel
+  pub goes_on : (p : ℕ) (r : Reply) → p < length o.assumed → r ≡ give_up_reply (mark_of s.marks p) s.cancel
       → (is_none (mark_of s.marks p) && is_some s.cancel) ≡ false
       → after ≡ journal ++ record { seat = seat; event = GiveUp p; reply = r } ∷ []
       → IsBoard covers bound t o s failures after
-  goes_on p r is stays after_is =
+  goes_on p r within is stays after_is =
       let e : Entry = record { seat = seat; event = GiveUp p; reply = r } in
       let entry_is : e ≡ entry_of o s seat (GiveUp p) = ap (λ x. record { seat = seat; event = GiveUp p; reply = x }) is in
       let next_is : s ≡ state_after o s (kept s (GiveUp p)) = not_given_up (mark_of s.marks p) s.cancel s p stays in
-      quiet s (GiveUp p) e next_is entry_is refl refl refl refl after_is
+      quiet s (GiveUp p) e next_is entry_is refl refl refl refl after_is within
 
   pub gives_up : (p : ℕ) (r : Reply) → p < length o.assumed → r ≡ give_up_reply (mark_of s.marks p) s.cancel
       → (is_none (mark_of s.marks p) && is_some s.cancel) ≡ true
@@ -289,6 +291,7 @@ module _ (covers : Problem → List (List ℕ) → ℕ → Type 0) (bound : Prob
       ap (λ c. given_up None c s p) (sym facts.cause_is) ∙ ap (λ m. given_up m s.cancel s p) (sym facts.free) in
       let was = b.stopped facts.cause facts.cause_is in
       board_behind covers bound t o s next failures failures journal after seat (GiveUp p) e b next_is entry_is after_is
+      within
       (marked covers bound grows t o s next failures failures journal e p mark.Cancelled b record {
         within = in_range p within;
         free = facts.free;
@@ -327,7 +330,7 @@ module _ (covers : Problem → List (List ℕ) → ℕ → Type 0) (bound : Prob
       let P : List (List ℕ) → Type 0 = λ xs. All (Contains xs) part in
       let has : All (Contains more) part = subst P (sym is) (joined_has_second s.clauses part) in
       board_behind covers bound t o s next failures failures journal after seat (Settle p mark.Proved part) e b next_is entry_is
-      after_is
+      after_is within
       (marked covers bound grows t o s next failures failures journal e p mark.Proved b record {
         within = in_range p within;
         free = free;
@@ -351,7 +354,7 @@ module _ (covers : Problem → List (List ℕ) → ℕ → Type 0) (bound : Prob
       let next_is : next ≡ state_after o s (kept s (Settle p (mark.Budget n) [])) =
       marks_plainly o s seat p (mark.Budget n) free refl in
       board_behind covers bound t o s next failures failures journal after seat (Settle p (mark.Budget n) []) e b next_is entry_is
-      after_is
+      after_is within
       (marked covers bound grows t o s next failures failures journal e p (mark.Budget n) b record {
         within = in_range p within;
         free = free;
@@ -377,7 +380,7 @@ module _ (covers : Problem → List (List ℕ) → ℕ → Type 0) (bound : Prob
       settles_plainly o s seat p mark.Fails upto free count refl in
       let next_is : next ≡ state_after o s (kept s (Settle p mark.Fails [])) = marks_plainly o s seat p mark.Fails free refl in
       board_behind covers bound t o s next failures (failures ++ f ∷ []) journal after seat (Settle p mark.Fails []) e b next_is
-      entry_is after_is
+      entry_is after_is within
       (marked covers bound grows t o s next failures (failures ++ f ∷ []) journal e p mark.Fails b record {
         within = in_range p within;
         free = free;

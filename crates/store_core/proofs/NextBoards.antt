@@ -5,7 +5,7 @@ use Rattle.std.specs.List.{filter}
 use Rattle.std.proofs.lemmas.Bool.{cases_eq}
 use Rattle.std.proofs.lemmas.Bool.Decides.{nat_tests}
 use Rattle.std.proofs.lemmas.List.{get_or-set_same, get_or-set_other, length-set, map-append, append-nil}
-use Rattle.std.proofs.lemmas.List.Elements.{filter-append, All-head, All-tail}
+use Rattle.std.proofs.lemmas.List.Elements.{filter-append, All-head, All-tail, All-push}
 use Rattle.std.proofs.lemmas.Option.{none-some, same_Some}
 use Rattle.ja_base.specs.Circuit.{Problem}
 use Rattle.ja_base.specs.Failures.{Failure, stimuli_of, IsShown}
@@ -18,7 +18,7 @@ use Rattle.store_core.specs.declared.mark.Mark.TheVariants.{Fails}
 use Rattle.store_core.specs.Steps.{State, kept, opened, mark_of, state_after}
 use Rattle.store_core.specs.History.{IsEntry, IsLegalHistory, board_after, entry_of}
 use Rattle.store_core.specs.Marks.{IsJustified, AreJustified}
-use Rattle.store_core.specs.Boards.{IsBoard, IsStopped, evidence, failed_by}
+use Rattle.store_core.specs.Boards.{IsBoard, IsStopped, AsksWithin, evidence, failed_by}
 use Rattle.store_core.proofs.Histories.{behind_push, legal_push, failed_push, entry_is}
 use Rattle.store_core.proofs.Reasons.{Grows, KeepFails, KeepsShown, cancel_later, justified_later}
 
@@ -47,12 +47,13 @@ module _ (covers : Problem → List (List ℕ) → ℕ → Type 0) (bound : Prob
   state_next : board_after o (journal ++ entry ∷ []) ≡ state_after o s (kept s event)
   state_next = behind_push o (opened o) journal entry ∙ ap (λ behind. state_after o behind (kept s event)) b.state_is
 
-  pub next_board : (more : List Failure) → IsNext covers bound t o s (state_after o s (kept s event)) failures more journal entry
+  pub next_board : (more : List Failure) → AsksWithin (length o.assumed) entry → IsNext covers bound t o s (state_after o s (kept s event)) failures more journal entry
       → IsBoard covers bound t o (state_after o s (kept s event)) more (journal ++ entry ∷ [])
-  next_board more h = record {
+  next_board more asks h = record {
     opens = b.opens;
     legal = legal_next;
     state_is = state_next;
+    asks = All-push (AsksWithin (length o.assumed)) journal entry b.asks asks;
     width = h.width ∙ b.width;
     justified = h.justified;
     stopped = h.stopped;

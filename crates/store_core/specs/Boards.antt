@@ -1,12 +1,12 @@
 -- What contracts see of a board, and what its type says of it.
-use Rattle.std.specs.Prelude.{◌≡◌, ◌≢◌, ◌↔◌, ℕ, ◌<◌, true, Some, List, [], ◌∷◌, ◌++◌, map, length, All, AllPairs, Contains}
+use Rattle.std.specs.Prelude.{◌≡◌, ◌≢◌, ◌↔◌, ℕ, ◌<◌, true, Option, Some, None, IfSome, List, [], ◌∷◌, ◌++◌, map, length, All, AllPairs, Contains}
 use Rattle.ja_base.specs.Literals.{bit}
 use Rattle.ja_base.specs.Circuit.{Problem}
 use Rattle.ja_base.specs.Runs.{Trace}
 use Rattle.ja_base.specs.Failures.{Failure}
 use Rattle.store_core.specs.declared.journal.Opening.{Opening}
 use Rattle.store_core.specs.declared.journal.Event.{Event}
-use Rattle.store_core.specs.declared.journal.Event.TheVariants.{Settle}
+use Rattle.store_core.specs.declared.journal.Event.TheVariants.{Draw, Import, Publish, Settle, Cancel, GiveUp}
 use Rattle.store_core.specs.declared.journal.Reply.{Reply}
 use Rattle.store_core.specs.declared.journal.Reply.TheVariants as reply
 use Rattle.store_core.specs.declared.journal.Entry.{Entry}
@@ -44,6 +44,19 @@ abbrev pub failed_in : List Entry → List ℕ
 failed_in [] = []
 failed_in (e ∷ es) = failed_by e.event e.reply ++ failed_in es
 
+-- the property that an event asks about, if it does
+abbrev pub asked_of : Event → Option ℕ
+asked_of Draw = None
+asked_of Import = None
+asked_of (Publish added) = None
+asked_of (Settle p m added) = Some p
+asked_of (Cancel p) = Some p
+asked_of (GiveUp p) = Some p
+
+-- the entry asks about no property, or about one below n
+abbrev pub AsksWithin : ℕ → Entry → Type 0
+AsksWithin n e = IfSome (asked_of e.event) (λ p. p < n)
+
 -- a failure as plain data, by what its type says of it
 abbrev pub shown : {V : Type 0} → (V → ℕ) → (V → Trace) → List V → List Failure
 shown property stimulus failures =
@@ -67,14 +80,15 @@ pub record IsStopped (o : Opening) (s : State) (journal : List Entry) (q : ℕ) 
   pub assumed : bit o.assumed q ≡ true
   pub fails : mark_of s.marks q ≡ Some mark.Fails
 
--- The state is the one behind the journal, which is legal; each mark is right; and the failures are those of the properties
--- that were settled as failing, in that order. Of what a list covers `covers` tells, and `bound` is a sufficient budget.
+-- The state is the one behind the journal, which is legal and asks about properties of the task alone; each mark is right; and
+-- the failures are those of the properties that were settled as failing, in that order. Of what a list covers `covers` tells, and `bound` is a sufficient budget.
 pub record IsBoard (covers : Problem → List (List ℕ) → ℕ
     → Type 0) (bound : Problem → ℕ) (t : Problem) (o : Opening) (s : State)
     (failures : List Failure) (journal : List Entry) : Type 0 where
   pub opens : Opens t o
   pub legal : IsLegalHistory o journal
   pub state_is : board_after o journal ≡ s
+  pub asks : All (AsksWithin (length o.assumed)) journal
   pub width : length s.marks ≡ length t.circuit.bads
   pub justified : AreJustified covers bound (evidence t o s failures journal)
   pub stopped : (q : ℕ) → s.cancel ≡ Some q → IsStopped o s journal q

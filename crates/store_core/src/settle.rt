@@ -37,7 +37,8 @@ impl<C: ClosedSet, V: Shown> Board<C, V> {
         had: Mark,
         mark: Mark,
     ) -> Result<Reply, Memory>
-        requires { mark_of self.old.state.marks prop ≡ Some had }
+        requires within { prop < length self.old.opening.assumed }
+        requires had { mark_of self.old.state.marks prop ≡ Some had }
         ensures err { OnErr result (self.new ≡ self.old) }
         ensures did { OnOk result ((added : List (List ℕ))
             → Did C.task self.old self.new seat (Settle prop mark added)) }
