@@ -1,10 +1,11 @@
--- The clause of the literals that are 0 in a row excludes just the latch row.
-use Rattle.std.proofs.Common.{◌≡◌, ℕ, suc, zero, ◌%◌, ◌==◌, ◌&&◌, ◌||◌, Bool, true, false, not, cond, List, [], ◌∷◌, length, slice_get, Some, refl, sym, ap, ◌∙◌, subst, arith}
+-- Clauses of literals that are 0 in a row: the latch row is in the cube that they exclude.
+use Rattle.std.proofs.Common.{◌≡◌, ℕ, suc, zero, ◌%◌, ◌==◌, ◌&&◌, ◌||◌, Bool, true, false, not, cond, List, [], ◌∷◌, ◌++◌, length, slice_get, Some, refl, sym, ap, ◌∙◌, subst, arith, ⊎_elim, inl, inr, ◌⊎◌}
 use Rattle.std.specs.Prelude.{Contains}
 use Rattle.std.specs.List.{list_any, list_all}
-use Rattle.std.proofs.lemmas.Bool.{false≢true, false_from_ne_true, eq-eqb}
+use Rattle.std.proofs.lemmas.Bool.{false≢true, false_from_ne_true, eq-eqb, cases_eq}
 use Rattle.std.proofs.lemmas.Bool.Decides.{nat_tests}
 use Rattle.std.proofs.lemmas.List.{length-map}
+use Rattle.std.proofs.lemmas.List.Elements.{Contains-push_cases}
 use Rattle.std.proofs.lemmas.Option.{slice_get_read, slice_get_within, get_or_from_slice_get}
 use Rattle.ja_base.specs.Literals.{bit, variable, negated, is_negated, with_sign, value}
 use Rattle.ja_base.specs.Clauses.{IsSetOf, has_literal}
@@ -21,6 +22,8 @@ use Rattle.ja_project.specs.Latches.{is_foreign, is_over_latch}
 use Rattle.ja_project.proofs.StartLemmas.{own_vars, latch_value_at, made_of_latches}
 use Rattle.ja_project.proofs.ValueLemmas.{now_value}
 use Rattle.ic3_general.specs.Cubes.{IsOutside, unmet_literal, unmet_literals}
+use Rattle.ic3_general.specs.Dropping.{IsAmongUnmet, HasUnmet}
+use Rattle.ja_project.proofs.OverLemmas.{HasLatch-from_test}
 
 -- ---- lists of literals
 
@@ -38,13 +41,13 @@ all_pass p (x ∷ xs) each =
     and_both (p x) (list_all p xs) (each x (0, omega arith, refl))
     (all_pass p xs (λ l c. each l (suc c.0, omega (arith, c.1), c.2)))
 
-none_pass : (p : ℕ → Bool) (xs : List ℕ) → ((l : ℕ) → Contains xs l → p l ≡ false) → list_any p xs ≡ false
+pub none_pass : (p : ℕ → Bool) (xs : List ℕ) → ((l : ℕ) → Contains xs l → p l ≡ false) → list_any p xs ≡ false
 none_pass p [] each = refl
 none_pass p (x ∷ xs) each =
     or_none (p x) (list_any p xs) (each x (0, omega arith, refl))
     (none_pass p xs (λ l c. each l (suc c.0, omega (arith, c.1), c.2)))
 
-passes_none : (p : ℕ → Bool) (xs : List ℕ) → list_any p xs ≡ false → (l : ℕ) → Contains xs l → p l ≡ false
+pub passes_none : (p : ℕ → Bool) (xs : List ℕ) → list_any p xs ≡ false → (l : ℕ) → Contains xs l → p l ≡ false
 passes_none p [] none l c = absurd (omega (arith, c.1))
 passes_none p (x ∷ xs) none l (zero, within, is) = subst (λ m. p m ≡ false) is (left (p x) (list_any p xs) none)
   where
@@ -85,6 +88,17 @@ sign_of_even l b even = by_sign (is_negated l) (not_odd l even)
     by_sign true e = absurd (false≢true (sym e))
     by_sign false e = refl
 
+-- of two literals over one variable with different values each is the negation of the other
+other_sign : (row : List Bool) (a b : ℕ) → variable a ≡ variable b → value row a ≡ false → value row b ≡ true → a ≡ negated b
+other_sign row a b var zero_at one_at =
+    ⊎_elim (λ same. absurd (false≢true (sym zero_at ∙ ap (value row) same ∙ one_at))) (λ other. other) (cases a b var)
+  where
+    by_sign : (a b : ℕ) → variable a ≡ variable b → (a % 2 ≡ b % 2 → ⊥) → a ≡ negated b
+    by_sign a b var other = grind (arith, nat_tests)
+
+    cases : (a b : ℕ) → variable a ≡ variable b → (a ≡ b) ⊎ (a ≡ negated b)
+    cases a b var = ⊎_elim (λ same. inl (omega arith)) (λ other. inr (by_sign a b var other)) (cases_eq (a % 2) (b % 2))
+
 -- a latch whose literal of the row is this one
 record IsUnmet (n : Netlist) (row : List Bool) (l : ℕ) : Type 0 where
   place : ℕ
@@ -116,16 +130,32 @@ module _ (n : Netlist) (sound : IsSound n) (row : List Bool) where
       let m = map_cases (unmet_literal row) n.latches c.0 l at in
       record { place = c.0; latch = m.0; latch_is = m.1; literal = m.2 }
 
-  to_literals : (k : ℕ) (latch : Latch) → slice_get n.latches k ≡ Some latch
+  pub to_literals : (k : ℕ) (latch : Latch) → slice_get n.latches k ≡ Some latch
       → Contains (unmet_literals n row) (unmet_literal row latch)
   to_literals k latch is =
       let l = unmet_literal row latch in
       let at = get_map (unmet_literal row) n.latches k latch is in
       (k, slice_get_within (unmet_literals n row) k l at, get_or_from_slice_get (unmet_literals n row) k l l at)
 
-  module _ (clause : List ℕ) (set : IsSetOf (unmet_literals n row) clause) where
+  -- one literal more
+  pub among_pushed : (lits : List ℕ) (k : ℕ) (latch : Latch) → slice_get n.latches k ≡ Some latch → IsAmongUnmet n row lits
+      → IsAmongUnmet n row (lits ++ unmet_literal row latch ∷ [])
+  among_pushed lits k latch is among l c =
+      ⊎_elim (λ old. among l old) (λ same. subst (Contains (unmet_literals n row)) same (to_literals k latch is))
+      (Contains-push_cases lits (unmet_literal row latch) l c)
+
+  -- each literal over a latch that is 1 has its negation among them
+  pub has_unmet : HasUnmet (circuit n) row (unmet_literals n row)
+  has_unmet l over one =
+      let h = HasLatch-from_test n l over in
+      let m = unmet_literal row h.latch in
+      let var : variable m ≡ variable l = unmet_var h.latch ∙ h.var_is in
+      subst (Contains (unmet_literals n row)) (other_sign row m l var (unmet_value h.place h.latch h.latch_is) one)
+      (to_literals h.place h.latch h.latch_is)
+
+  module _ (clause : List ℕ) (among : IsAmongUnmet n row clause) where
     literal_of : (l : ℕ) → Contains clause l → IsUnmet n row l
-    literal_of l c = from_literals l ((set.members l).0 c)
+    literal_of l c = from_literals l (among l c)
 
     value_of : (l : ℕ) → Contains clause l → value row l ≡ false
     value_of l c = let u = literal_of l c in subst (λ m. value row m ≡ false) u.literal (unmet_value u.place u.latch u.latch_is)
@@ -155,27 +185,3 @@ module _ (n : Netlist) (sound : IsSound n) (row : List Bool) where
       unmet = none_pass (latch_value (circuit n).latches (latch_row (circuit n) row)) clause
           (λ l c. now_value (circuit n).latches row l (is_over l c) ∙ value_of l c);
     }
-
-    same_bit : (l : ℕ) (a b : Bool) → with_sign l a ≡ false → with_sign l b ≡ false → a ≡ b
-    same_bit l a b e f = by_sign (is_negated l) a b e f
-      where
-        by_sign : (n a b : Bool) → cond n (not a) a ≡ false → cond n (not b) b ≡ false → a ≡ b
-        by_sign true true true e f = refl
-        by_sign true false b e f = absurd (false≢true (sym e))
-        by_sign true true false e f = absurd (false≢true (sym f))
-        by_sign false a b e f = e ∙ sym f
-
-    pub cube_is_row : (s : List Bool) → IsOutside (circuit n) clause s → s ≡ latch_row (circuit n) row
-    cube_is_row s out =
-        made_of_latches n.latches (λ (l : plain.Latch). bit row l.var) s (out.width ∙ length-map n.latches latch_of) each
-      where
-        each : (k : ℕ) (latch : Latch) → slice_get n.latches k ≡ Some latch → bit s k ≡ bit row (variable latch.lit)
-        each k latch is =
-            let l = unmet_literal row latch in
-            let among = (set.members l).1 (to_literals k latch is) in
-            let there = passes_none (latch_value (circuit n).latches s) clause out.unmet l among in
-            let value_there = latch_value_at (circuit n).latches s l k (latch_of latch) (own_vars n sound) out.width
-            (get_map latch_of n.latches k latch is) (unmet_var latch) in
-            let value_here = value_of l among in
-            same_bit l (bit s k) (bit row (variable latch.lit)) (sym value_there ∙ there)
-            (subst (λ u. with_sign l (bit row u) ≡ false) (unmet_var latch) value_here)

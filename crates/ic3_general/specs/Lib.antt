@@ -1,3 +1,5 @@
 pub mod Cubes
 pub mod Chains
+pub mod Lifting
+pub mod Dropping
 pub mod Shrinking

@@ -3,11 +3,19 @@
 //! failure.
 #![tactic(auto)]
 
+mod dropping;
 mod failing;
+mod justifying;
 mod lifting;
 mod rows;
 mod shrinking;
+mod sure;
+mod targets;
+#[cfg(test)]
+mod tests;
 
+pub use dropping::lift;
 pub use failing::failure_of;
 pub use lifting::{Cube, lifted, lifted_bad};
 pub use shrinking::shrink;
+pub use sure::sure_into;

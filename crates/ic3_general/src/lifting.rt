@@ -1,5 +1,5 @@
-//! Lifting: from one step to a cube of latch rows that all lead on. The cube is the one row for now; callers read nothing but
-//! that it has the row and that all of it leads.
+//! Lifting: from one step to a cube of latch rows that all lead on. Callers read nothing but that it has the row and that all of
+//! it leads.
 
 ghost use Rattle.std.specs.Prelude.{◌≡◌, ◌<◌, ◌∷◌, ◌++◌, ℕ, false, length, IfOk, OnOk};
 ghost use Rattle.std.specs.List.{list_any};
@@ -11,7 +11,9 @@ ghost use Rattle.ja_project.specs.Latches.{is_foreign};
 ghost use Rattle.ic3_general.specs.Cubes.{IsOutside};
 ghost use Rattle.ic3_general.specs.Chains.{AllLead};
 
-use crate::rows::{input_of, row_clause};
+use crate::dropping::lift;
+use crate::rows::input_of;
+use crate::targets::{bad_target, step_target};
 use ja_base::{Clause, Memory, Row, Rows};
 use ja_project::Coded;
 use std::alloc::Global;
@@ -59,8 +61,10 @@ pub fn lifted(
     ensures chain { IfOk result (λ cube. cube.chain
         ≡ input_row (circuit coded.now.design) vals.now ∷ chain.now) }
 {
-    let clause = row_clause(alloc, coded, vals)?;
-    let input = input_of(alloc, coded.task().design(), vals)?;
+    let design = coded.task().design();
+    let target = step_target(alloc, coded, clause)?;
+    let clause = lift(alloc, design, vals, target.as_slice())?;
+    let input = input_of(alloc, design, vals)?;
     let chain = extended(alloc, input, chain)?;
     Ok(Cube { clause, chain })
 }
@@ -81,8 +85,10 @@ pub fn lifted_bad(alloc: Global, coded: &Coded, prop: u32, vals: &Row) -> Result
         (λ cube. AllLead (problem coded.now) prop cube.clause cube.chain) }
     ensures chain { IfOk result (λ cube. length cube.chain ≡ 1) }
 {
-    let clause = row_clause(alloc, coded, vals)?;
-    let input = input_of(alloc, coded.task().design(), vals)?;
+    let design = coded.task().design();
+    let target = bad_target(alloc, coded, prop)?;
+    let clause = lift(alloc, design, vals, target.as_slice())?;
+    let input = input_of(alloc, design, vals)?;
     let chain = Rows::one(alloc, input)?;
     Ok(Cube { clause, chain })
 }
