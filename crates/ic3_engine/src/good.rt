@@ -13,12 +13,12 @@ ghost use Rattle.ic3_query.specs.Questions.{AreOwnLevels, IsRoom};
 ghost use Rattle.ic3_query.specs.Serving.{Serves};
 ghost use Rattle.ic3_engine.specs.Searching.{IsGoodPart};
 
-use crate::general::generalise;
 use ic3_frames::Frames;
+use ic3_general::shrink;
 use ic3_query::{Asked, Halt, Known, Room, ask};
 use ja_base::{Clause, Meter};
 use ja_outside::Flag;
-use ja_project::Coded;
+use ja_project::{Coded, ResetTable};
 use sat_plain::Probe;
 use std::alloc::Global;
 
@@ -26,6 +26,7 @@ use std::alloc::Global;
 pub(crate) fn for_good<S: Probe, F: Flag>(
     alloc: Global,
     coded: &Coded,
+    table: &ResetTable,
     solver: &mut S,
     frames: &Frames,
     known: &Known,
@@ -34,6 +35,7 @@ pub(crate) fn for_good<S: Probe, F: Flag>(
     meter: &mut Meter,
     flag: &mut F,
 ) -> Result<Option<Clause>, Halt>
+    requires table { table.now ≡ coded.now.design }
     requires own { is_foreign (circuit coded.now.design) clause.now ≡ false }
     requires begins { starts (circuit coded.now.design) clause.now ≡ true }
     requires levels { AreOwnLevels coded.now.design frames.now.kept }
@@ -61,8 +63,8 @@ pub(crate) fn for_good<S: Probe, F: Flag>(
     )? {
         Asked::Before => Ok(None),
         Asked::Blocked(core) => {
-            let part = generalise(
-                alloc, coded, solver, frames, known, level, clause, &core, room, meter, flag,
+            let part = shrink(
+                alloc, coded, table, solver, frames, known, level, clause, &core, room, meter, flag,
             )?;
             Ok(Some(part))
         }

@@ -10,7 +10,6 @@ mod descent;
 mod engine;
 mod fixing;
 mod found;
-mod general;
 mod good;
 mod learning;
 mod local;

@@ -22,12 +22,11 @@ ghost use Rattle.ic3_engine.specs.Answers.{IsTurn};
 ghost use Rattle.ic3_engine.specs.Lowering.{IsLowering};
 ghost use Rattle.ic3_general.specs.Chains.{AllLead};
 
-use crate::general::generalise;
 use crate::good::for_good;
 use crate::outcome::Turn;
 use crate::search::Search;
 use crate::settling::{settle, settle_good};
-use ic3_general::{failure_of, lifted};
+use ic3_general::{failure_of, lifted, shrink};
 use ic3_oblig::{Obligation, Queue};
 use ic3_query::{Asked, Halt, ask};
 use ja_base::{Clause, Memory, Meter, Row};
@@ -97,6 +96,7 @@ fn lower(
 fn finish<S: Probe, F: Flag>(
     alloc: Global,
     coded: &Coded,
+    table: &ResetTable,
     prop: u32,
     z: &mut Search<S>,
     part: Clause,
@@ -104,6 +104,7 @@ fn finish<S: Probe, F: Flag>(
     meter: &mut Meter,
     flag: &mut F,
 ) -> Result<(), Halt>
+    requires table { table.now ≡ coded.now.design }
     requires search { IsSearching coded.now prop
         (state z.old.known z.old.frames z.old.queue (S.count z.old.solver)
         (S.added z.old.solver)) }
@@ -128,6 +129,7 @@ fn finish<S: Probe, F: Flag>(
     match for_good(
         alloc,
         coded,
+        table,
         &mut z.solver,
         &z.frames,
         &z.known,
@@ -211,9 +213,10 @@ fn at_level<S: Probe, F: Flag>(
             Ok(turn)
         }
         Asked::Blocked(core) => {
-            let part = generalise(
+            let part = shrink(
                 alloc,
                 coded,
+                table,
                 &mut z.solver,
                 &z.frames,
                 &z.known,
@@ -224,7 +227,7 @@ fn at_level<S: Probe, F: Flag>(
                 meter,
                 flag,
             )?;
-            finish(alloc, coded, prop, z, part, now, meter, flag)?;
+            finish(alloc, coded, table, prop, z, part, now, meter, flag)?;
             Ok(Turn::Done)
         }
     }
@@ -263,6 +266,7 @@ pub(crate) fn take_turn<S: Probe, F: Flag>(
     match for_good(
         alloc,
         coded,
+        table,
         &mut z.solver,
         &z.frames,
         &z.known,
