@@ -1,0 +1,58 @@
+-- What a judgement settles, and that a failure of another property is seen once.
+use Rattle.std.proofs.Common.{◌≡◌, ℕ, zero, suc, ◌<◌, ◌⊎◌, inl, inr, ⊎_elim, Bool, true, false, Option, List, [], ◌∷◌, length, refl, sym, subst, ◌∙◌, arith}
+use Rattle.std.specs.Prelude.{slice_set}
+use Rattle.std.proofs.lemmas.Bool.{cases_lt, false≢true}
+use Rattle.std.proofs.lemmas.List.{get_or_past}
+use Rattle.ja_base.specs.Circuit.{Problem}
+use Rattle.ja_base.specs.Literals.{bit}
+use Rattle.ja_base.specs.Invariants.{Covers}
+use Rattle.aig_model.specs.Netlist.{circuit}
+use Rattle.aig_model.specs.Task.{VerificationTask, problem}
+use Rattle.inv_cert.specs.Closed.{ClosedList}
+use Rattle.local_stim.specs.Found.{FoundFailure}
+use Rattle.store_core.specs.declared.answers.Judged.{Judged}
+use Rattle.store_core.specs.declared.answers.Judged.TheVariants.{Proved, Fails, Spent}
+use Rattle.store_core.specs.Judged.{IfFails, IfProved}
+use Rattle.ic3_engine.specs.Found.{IsUnseen}
+use Rattle.worker_pool.specs.Judgements.{IsJudgement, judged_property, unset}
+
+assumed_within : (t : VerificationTask) (p : ℕ) → length t.expected ≡ length t.design.bads → bit t.expected p ≡ true
+    → p < length t.design.bads
+assumed_within t p long held = ⊎_elim (λ lt. omega (arith, lt, long))
+    (λ past. absurd (false≢true (sym (get_or_past t.expected p false past) ∙ held))) (cases_lt p (length t.expected))
+
+pub judged_within : (t : VerificationTask) (p : ℕ) (failed : List Bool) (limit : Option ℕ) (j : Judged ClosedList FoundFailure)
+    → IsJudgement t p failed limit j → length t.expected ≡ length t.design.bads → p < length t.design.bads
+    → judged_property j p < length t.design.bads
+judged_within t p failed limit (Proved list) h long within = within
+judged_within t p failed limit (Spent n) h long within = within
+judged_within t p failed limit (Fails f) h long within =
+    ⊎_elim (λ (e : f.prop ≡ p). omega (arith, e, within))
+    (λ (u : IsUnseen t failed f.prop). assumed_within t f.prop long u.assumed) h.prop
+
+pub proof_settles : (t : VerificationTask) (p : ℕ) (failed : List Bool) (limit : Option ℕ) (task : Problem)
+    (j : Judged ClosedList FoundFailure) → IsJudgement t p failed limit j → problem t ≡ task
+    → IfProved j (λ list. (problem list.task ≡ task) × Covers (circuit list.task.design) list.clauses (judged_property j p))
+proof_settles t p failed limit task (Proved list) h is = (h.task ∙ is, h.covers)
+proof_settles t p failed limit task (Fails f) h is = tt
+proof_settles t p failed limit task (Spent n) h is = tt
+
+-- a bit more is set
+unset_falls : (bs : List Bool) (at : ℕ) → at < length bs → bit bs at ≡ false → unset (slice_set bs at true) < unset bs
+unset_falls [] at within free = absurd (omega (arith, within))
+unset_falls (true ∷ bs) zero within free = absurd (false≢true (sym free))
+unset_falls (false ∷ bs) zero within free = omega arith
+unset_falls (true ∷ bs) (suc at) within free = unset_falls bs at (omega (arith, within)) free
+unset_falls (false ∷ bs) (suc at) within free = let h = unset_falls bs at (omega (arith, within)) free in omega (arith, h)
+
+pub other_falls : (t : VerificationTask) (p : ℕ) (failed now : List Bool) (limit : Option ℕ) (j : Judged ClosedList FoundFailure)
+    → IsJudgement t p failed limit j → IfFails j (λ f. now ≡ slice_set failed f.prop true)
+    → length failed ≡ length t.design.bads → length t.expected ≡ length t.design.bads
+    → (judged_property j p ≡ p) ⊎ (unset now < unset failed)
+other_falls t p failed now limit (Proved list) h seen wide long = inl refl
+other_falls t p failed now limit (Spent n) h seen wide long = inl refl
+other_falls t p failed now limit (Fails f) h seen wide long = ⊎_elim (λ (e : f.prop ≡ p). inl e)
+    (λ (u : IsUnseen t failed f.prop).
+    inr (subst (λ (bs : List Bool). unset bs < unset failed) (sym seen)
+    (unset_falls failed f.prop (omega (arith, wide, assumed_within t f.prop long u.assumed)) u.unseen)))
+    h.prop

@@ -1,0 +1,46 @@
+-- An engine between two questions, and what it answers as a judgement.
+use Rattle.std.specs.Prelude.{◌≡◌, ℕ, ◌+◌, Bool, Option, Some, List, [], ◌∷◌, if◌then◌else◌}
+use Rattle.ja_base.specs.Invariants.{Covers}
+use Rattle.aig_model.specs.Netlist.{circuit}
+use Rattle.aig_model.specs.Task.{VerificationTask, problem}
+use Rattle.inv_cert.specs.Closed.{ClosedList}
+use Rattle.local_stim.specs.Found.{FoundFailure}
+use Rattle.store_core.specs.declared.answers.Judged.{Judged}
+use Rattle.store_core.specs.declared.answers.Judged.TheVariants.{Proved, Fails, Spent}
+use Rattle.ic3_query.specs.Questions.{IsRoom}
+use Rattle.ic3_engine.specs.declared.engine.Engine.{Engine}
+use Rattle.ic3_engine.specs.Engines.{IsReady}
+use Rattle.ic3_engine.specs.Found.{IsFailureSeen}
+use Rattle.ic3_engine.specs.Turns.{state}
+
+-- The engine is ready for a property of the task; `count` and `added` tell the variables and the clauses of its solver.
+pub record IsEngine {S : Type 0} (count : S → ℕ) (added : S → List (List ℕ))
+    (t : VerificationTask) (engine : Engine S) : Type 0 where
+  pub ready : IsReady t
+      (state engine.search.known engine.search.frames engine.search.queue
+      (count engine.search.solver) (added engine.search.solver))
+      engine.table engine.failed engine.live
+  pub room : IsRoom t.design engine.search.room.row engine.search.room.vals
+
+-- a closed list of the task that covers the property
+pub record IsProof (t : VerificationTask) (p : ℕ) (list : ClosedList) : Type 0 where
+  pub task : problem list.task ≡ problem t
+  pub covers : Covers (circuit list.task.design) list.clauses p
+
+-- a proof of the property, a failure of it or of another one that was not seen before, or the limit that was spent
+abbrev pub IsJudgement : VerificationTask → ℕ → List Bool → Option ℕ
+    → Judged ClosedList FoundFailure → Type 0
+IsJudgement t p failed limit (Proved list) = IsProof t p list
+IsJudgement t p failed limit (Fails failure) = IsFailureSeen t p failed failure
+IsJudgement t p failed limit (Spent units) = limit ≡ Some units
+
+-- the property that a judgement is of, where this one was asked for
+abbrev pub judged_property : Judged ClosedList FoundFailure → ℕ → ℕ
+judged_property (Proved list) p = p
+judged_property (Fails failure) p = failure.prop
+judged_property (Spent units) p = p
+
+-- how many bits are 0
+abbrev pub unset : List Bool → ℕ
+unset [] = 0
+unset (b ∷ bs) = if b then unset bs else unset bs + 1
