@@ -35,7 +35,7 @@ or_none : (a b : Bool) → a ≡ false → b ≡ false → (a || b) ≡ false
 or_none true b e f = e
 or_none false b e f = f
 
-all_pass : (p : ℕ → Bool) (xs : List ℕ) → ((l : ℕ) → Contains xs l → p l ≡ true) → list_all p xs ≡ true
+pub all_pass : (p : ℕ → Bool) (xs : List ℕ) → ((l : ℕ) → Contains xs l → p l ≡ true) → list_all p xs ≡ true
 all_pass p [] each = refl
 all_pass p (x ∷ xs) each =
     and_both (p x) (list_all p xs) (each x (0, omega arith, refl))

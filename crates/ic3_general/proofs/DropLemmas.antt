@@ -22,11 +22,11 @@ use Rattle.ic3_general.proofs.SureLemmas.{makes_sure, part_leaves_unsure, over_n
 
 -- ---- members of lists
 
-first_or_later : (x l : ℕ) (xs : List ℕ) → Contains (x ∷ xs) l → (x ≡ l) ⊎ Contains xs l
+pub first_or_later : (x l : ℕ) (xs : List ℕ) → Contains (x ∷ xs) l → (x ≡ l) ⊎ Contains xs l
 first_or_later x l xs (zero, within, is) = inl is
 first_or_later x l xs (suc k, within, is) = inr (k, omega (arith, within), is)
 
-later : (x l : ℕ) (xs : List ℕ) → Contains xs l → Contains (x ∷ xs) l
+pub later : (x l : ℕ) (xs : List ℕ) → Contains xs l → Contains (x ∷ xs) l
 later x l xs h = (suc h.0, omega (arith, h.1), h.2)
 
 -- what stands in the rest stands in the whole
@@ -42,7 +42,7 @@ in_rest before after l m other h =
     (λ b. ⊎_elim (λ same. absurd (other same)) (λ c. Contains-append_right before after m c) (first_or_later l m after b))
     (Contains-append_cases before (l ∷ after) m h)
 
-in_filter : (p : ℕ → Bool) (xs : List ℕ) (m : ℕ) → Contains (filter p xs) m → Contains xs m × (p m ≡ true)
+pub in_filter : (p : ℕ → Bool) (xs : List ℕ) (m : ℕ) → Contains (filter p xs) m → Contains xs m × (p m ≡ true)
 in_filter p [] m h = absurd (omega (arith, h.1))
 in_filter p (x ∷ xs) m h = by_test (p x) refl (in_filter p xs m) h
   where

@@ -6,4 +6,5 @@ pub mod RangeLemmas
 pub mod LeafLemmas
 pub mod DropLemmas
 pub mod TargetLemmas
+pub mod CutLemmas
 pub mod ShrinkLemmas

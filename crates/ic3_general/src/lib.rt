@@ -3,6 +3,7 @@
 //! failure.
 #![tactic(auto)]
 
+mod cutting;
 mod dropping;
 mod failing;
 mod justifying;
