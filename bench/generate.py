@@ -121,6 +121,29 @@ def shallow(latches, props):
     return "\n".join(lines) + "\n"
 
 
+def counters(count, bits):
+    """So many pairs of counters, each pair with an enable of its own; a property for each, that the top bits never differ one way."""
+    inputs = [2 * (at + 1) for at in range(count)]
+    first = count + 1
+    latch = lambda pair, side, bit: 2 * (first + (pair * 2 + side) * bits + bit)
+    top, latches, gates, bads = count + count * 2 * bits, [], [], []
+    for pair in range(count):
+        for side in range(2):
+            carry = inputs[pair]
+            for bit in range(bits):
+                here = latch(pair, side, bit)
+                both, neither, next_bit = 2 * (top + 1), 2 * (top + 2), 2 * (top + 3)
+                top += 3
+                gates += [(both, here, carry), (neither, here ^ 1, carry ^ 1), (next_bit, both ^ 1, neither ^ 1)]
+                latches.append(f"{here} {next_bit}")
+                carry = both
+        top += 1
+        gates.append((2 * top, latch(pair, 0, bits - 1), latch(pair, 1, bits - 1) ^ 1))
+        bads.append(str(2 * top))
+    lines = [f"aag {top} {count} {len(latches)} 0 {len(gates)} {count}", *map(str, inputs), *latches, *bads]
+    return "\n".join(lines + [" ".join(map(str, gate)) for gate in gates]) + "\n"
+
+
 def report(clauses, props, seed=5):
     """The report of a design of 20,000 latches: every fortieth property fails, and the journal is shown."""
     chance = random.Random(seed)
@@ -166,6 +189,7 @@ def main(folder):
     (folder / "shallow.aag").write_text(shallow(8, 200))
     for latches in (10, 20):
         (folder / f"ring_{latches}.aag").write_text(ring(latches)[0])
+    (folder / "counters.aag").write_text(counters(200, 5))
     for name, text in zip(["ring.aag", "ring.clauses", "ring.proofs"], ring(3_000)):
         (folder / name).write_text(text)
     clauses, log = refutations(100_000, 1_000_000)
