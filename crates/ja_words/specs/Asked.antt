@@ -1,5 +1,5 @@
 -- What the values that are read ask for.
-use Rattle.std.specs.Prelude.{option_map}
+use Rattle.std.specs.Prelude.{◌≤◌, ⊤, option_map}
 use Rattle.ja_words.specs.declared.words.Names.{Names as NamesRead}
 use Rattle.ja_words.specs.declared.words.Order.{Order as OrderRead}
 use Rattle.ja_words.specs.declared.words.Words.{Words}
@@ -22,3 +22,12 @@ order o = record {
 abbrev pub asked : Words → Command
 asked (Confirm n) = ToConfirm (names n)
 asked (Sign o) = ToSign (order o)
+
+-- from 1 to 8 work at once
+abbrev pub HasFewWorkers : OrderRead → Type 0
+HasFewWorkers o = (1 ≤ o.workers) × (o.workers ≤ 8)
+
+-- the same of a sign-off that is asked for
+abbrev pub HasFewAsked : Words → Type 0
+HasFewAsked (Confirm n) = ⊤
+HasFewAsked (Sign o) = HasFewWorkers o

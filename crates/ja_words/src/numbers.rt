@@ -7,9 +7,10 @@ use ja_text::whole_number;
 
 /// The number that the word names, if it is from 1 to `most`; without a word `plain`. None where it is another.
 pub(crate) fn number_or(word: Option<&str>, plain: u64, most: u64) -> Option<u64>
-    requires { plain ≤ most }
+    requires some { 1 ≤ plain }
+    requires few { plain ≤ most }
     ensures value { result ≡ number_or plain most (option_map (λ x. x.now) word.entry) }
-    ensures within { IfSome result (λ n. n ≤ most) }
+    ensures within { IfSome result (λ n. (1 ≤ n) × (n ≤ most)) }
 {
     let Some(word) = word else {
         return Some(plain);

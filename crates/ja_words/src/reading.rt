@@ -5,7 +5,7 @@ ghost use Rattle.clap.specs.Words.{app_of, fault_of, first_of, found_of, is_simp
 ghost use Rattle.ja_base.specs.Answers.{IfRefused};
 ghost use Rattle.ja_words.specs.Commands.{confirm_app, sign_app};
 ghost use Rattle.ja_words.specs.Words.{command_of, confirm_names, is_on, is_taken, names_from, names_of, order_from, order_of, sign_order};
-ghost use Rattle.ja_words.specs.Asked.{asked, names, order};
+ghost use Rattle.ja_words.specs.Asked.{HasFewAsked, HasFewWorkers, asked, names, order};
 
 use crate::commands::{confirm_command, sign_command};
 use crate::numbers::number_or;
@@ -62,9 +62,10 @@ fn order_from<'a>(
     fail_fast: bool,
     journal: bool,
 ) -> Option<Order<'a>>
-    requires { IfSome workers (λ n. n ≤ 8) }
-    ensures { option_map order result ≡ order_from (option_map (λ x. x.now) design.entry)
+    requires { IfSome workers (λ n. (1 ≤ n) × (n ≤ 8)) }
+    ensures order { option_map order result ≡ order_from (option_map (λ x. x.now) design.entry)
         (option_map (λ x. x.now) expect.entry) workers budget fail_fast journal }
+    ensures workers { IfSome result HasFewWorkers }
 {
     match (design, workers, budget) {
         (Some(design), Some(workers), Some(budget)) => Some(Order {
@@ -80,7 +81,8 @@ fn order_from<'a>(
 }
 
 fn order_of<'a>(matches: &ArgMatches<'a>) -> Option<Order<'a>>
-    ensures { option_map order result ≡ order_of (rows_of (found_of matches.now)) }
+    ensures order { option_map order result ≡ order_of (rows_of (found_of matches.now)) }
+    ensures workers { IfSome result HasFewWorkers }
 {
     let workers = number_or(text_of(matches, "workers"), 1, 8);
     let budget = number_or(text_of(matches, "budget"), PLAIN_BUDGET, PLAIN_BUDGET);
@@ -118,6 +120,7 @@ fn names_of<'a>(matches: &ArgMatches<'a>) -> Option<Names<'a>>
 fn read_sign<'a>(alloc: Global, words: &'a [String]) -> Result<Order<'a>, OrMemory<Usage>>
     ensures ok { IfOk result (λ o. sign_order (map string_bytes words.entry.now)
         ≡ Some (order o)) }
+    ensures workers { IfOk result HasFewWorkers }
     ensures refused { IfRefused result (λ _. sign_order (map string_bytes words.entry.now)
         ≡ None) }
 {
@@ -146,6 +149,7 @@ fn read_confirm<'a>(alloc: Global, words: &'a [String]) -> Result<Names<'a>, OrM
 pub fn read_words<'a>(alloc: Global, words: &'a [String]) -> Result<Words<'a>, OrMemory<Usage>>
     ensures ok { IfOk result (λ w. command_of (map string_bytes words.entry.now)
         ≡ Some (asked w)) }
+    ensures workers { IfOk result HasFewAsked }
     ensures refused { IfRefused result (λ _. command_of (map string_bytes words.entry.now)
         ≡ None) }
 {

@@ -1,7 +1,7 @@
 //! `jasign`: words, real files and standard output for the one call that does the work.
 #![tactic(auto)]
 
-use ja_std::{FileShelf, StdSink};
+use ja_std::{FileShelf, OpenGate, StdSink};
 use jasign_run::{jasign_run, memory_run};
 use std::env::{self, Env};
 use std::io;
@@ -31,14 +31,19 @@ fn words_of(rt: &(impl Env + AllocGlobal)) -> Result<Vec<String>, NoWords> {
     Ok(words)
 }
 
+/// What the words come to. Nobody watches the workers.
+fn status_of(rt: &HostRuntime, words: &[String]) -> u8 {
+    let mut shelf = FileShelf::new(rt);
+    let mut out = StdSink::new(rt);
+    jasign_run(rt, rt.alloc(), words, &mut shelf, &mut out, &OpenGate).status
+}
+
 fn main(rt: HostRuntime) -> ExitCode {
-    let mut shelf = FileShelf::new(&rt);
-    let mut out = StdSink::new(&rt);
     let status = match words_of(&rt) {
-        Ok(words) => jasign_run(rt.alloc(), words.as_slice(), &mut shelf, &mut out).status,
+        Ok(words) => status_of(&rt, words.as_slice()),
         // No command has a word that is no text, and none has no words.
-        Err(NoWords::NotText) => jasign_run(rt.alloc(), &[], &mut shelf, &mut out).status,
-        Err(NoWords::Memory) => memory_run(&mut out),
+        Err(NoWords::NotText) => status_of(&rt, &[]),
+        Err(NoWords::Memory) => memory_run(&mut StdSink::new(&rt)),
     };
     ExitCode::from(status)
 }

@@ -6,7 +6,7 @@ use Rattle.ja_outside.specs.Shelf.{Held}
 use Rattle.aig_model.specs.Netlist.{Netlist}
 use Rattle.jasign_run.specs.declared.outcome.Stop.{Stop}
 use Rattle.jasign_run.specs.declared.outcome.Stop.TheVariants.{DesignRefused, StimulusRefused, ExpectRefused, Usage, Outside, Memory}
-use Rattle.jasign_run.specs.Words.{Names, Order}
+use Rattle.ja_words.specs.Words.{Names, Order}
 use Rattle.jasign_run.specs.Files.{IsDesignFile, IsStimulusFile, FailsToRead, NoStimulus, NothingExpected, IsQuietStop}
 use Rattle.jasign_run.specs.Meaning.{StopsAtStimulus, StopsAtExpectations, StopsConfirm, StopsBeforeSigning, StopsSign}
 

@@ -1,6 +1,6 @@
 -- What a run means: which outcome comes of the words and of what the files hold, and what is then written. `held` is what
 -- each name of the shelf holds, if the shelf tells; `before` and `after` are counts of faults.
-use Rattle.std.specs.Prelude.{◌≡◌, ℕ, ◌⊎◌, ⊤, Bool, List, length, Option, MatchOption}
+use Rattle.std.specs.Prelude.{◌≡◌, ℕ, ◌⊎◌, ⊤, Bool, List, length, Option, Some, MatchOption}
 use Rattle.ja_base.specs.Runs.{Trace}
 use Rattle.ja_outside.specs.Faults.{Rose}
 use Rattle.ja_outside.specs.Shelf.{Held}
@@ -10,6 +10,7 @@ use Rattle.aig_model.specs.Task.{VerificationTask, problem}
 use Rattle.local_stim.specs.Verdict.{IsVerdict}
 use Rattle.local_stim.specs.declared.verdict.Confirm.{Confirm}
 use Rattle.report.specs.Findings.{Findings}
+use Rattle.sign_task.specs.declared.terms.Terms.{Terms}
 use Rattle.sign_task.specs.SignOff.{IsSignOff}
 use Rattle.jasign_run.specs.declared.outcome.Outcome.{Outcome}
 use Rattle.jasign_run.specs.declared.outcome.Outcome.TheVariants.{Replayed, Signed, Stopped}
@@ -17,7 +18,7 @@ use Rattle.jasign_run.specs.declared.outcome.Stop.{Stop}
 use Rattle.jasign_run.specs.declared.outcome.Stop.TheVariants.{DesignRefused, StimulusRefused, ExpectRefused, Usage, Outside, Memory}
 use Rattle.jasign_run.specs.Files.{IsDesignFile, NoDesign, IsStimulusFile, NoStimulus, IsExpected, NothingExpected, IsQuietStop}
 use Rattle.jasign_run.specs.Lines.{outcome_text, outcome_status}
-use Rattle.jasign_run.specs.Words.{Names, Order, Command, ToConfirm, ToSign, command_of}
+use Rattle.ja_words.specs.Words.{Names, Order, Command, ToConfirm, ToSign, command_of}
 
 -- the task of a design with what is expected
 abbrev pub task_of : Netlist → List Bool → VerificationTask
@@ -73,13 +74,21 @@ Confirms held before after names (Replayed verdict prop steps) =
 Confirms held before after names (Signed report) = ⊥
 Confirms held before after names (Stopped stop) = StopsConfirm held before after names stop
 
--- the files were accepted, and the report is that of a sign-off of their task
+-- the terms of a sign-off, as its words say them; how many work at once is none of them
+abbrev pub terms_of : Order → Terms
+terms_of order = record {
+  limit = Some order.budget;
+  fail_fast = order.fail_fast;
+  journal = order.journal;
+}
+
+-- the files were accepted, and the report is that of a sign-off of their task on these terms
 pub record SignsOff (held : Held) (order : Order) (report : Findings) : Type 0 where
   pub netlist : Netlist
   pub expected : List Bool
   pub design_file : IsDesignFile held order.design netlist
   pub expected_is : IsExpected held order.expect netlist expected
-  pub signed : IsSignOff (task_of netlist expected) order.budget report
+  pub signed : IsSignOff (task_of netlist expected) (terms_of order) report
 
 -- the design was accepted, and the file of expectations gives none
 pub record StopsBeforeSigning (held : Held) (before after : ℕ) (order : Order)

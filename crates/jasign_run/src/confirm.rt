@@ -4,17 +4,17 @@ ghost use Rattle.std.specs.Prelude.{◌≡◌, ◌≤◌, ◌<◌, length, optio
 ghost use Rattle.ja_base.specs.Runs.{Trace};
 ghost use Rattle.aig_model.specs.Task.{problem};
 ghost use Rattle.local_stim.specs.Verdict.{IsVerdict};
-ghost use Rattle.jasign_run.specs.Words.{Names as FileNames};
+ghost use Rattle.ja_words.specs.Words.{Names as FileNames};
 ghost use Rattle.jasign_run.specs.Meaning.{Confirms, Ends, IsQuiet, task_of};
 ghost use Rattle.jasign_run.specs.declared.outcome.Outcome.{Outcome as Outcomes};
 
 use crate::ending::finish;
 use crate::files::{design_of, expected_of, stimulus_of};
 use crate::outcome::{Outcome, Stop};
-use crate::words::Names;
 use aig_model::{Design, Expect, Stimulus, Task};
 use ja_base::Memory;
 use ja_outside::{Shelf, Sink};
+use ja_words::Names;
 use local_stim::{Confirm, confirm};
 use std::alloc::Global;
 

@@ -11,7 +11,6 @@ mod outcome;
 mod run;
 mod sign;
 mod verdicts;
-mod words;
 
 pub use confirm::confirm_run;
 pub use ending::memory_run;

@@ -9,17 +9,22 @@ use crate::confirm::confirm_run;
 use crate::ending::finish;
 use crate::outcome::{Outcome, Ran, Stop};
 use crate::sign::sign_run;
-use crate::words::{confirm_names, sign_order};
-use ja_outside::{Shelf, Sink};
+use ja_base::OrMemory;
+use ja_outside::{Gate, Shelf, Sink};
+use ja_words::{Words, read_words};
 use std::alloc::Global;
+use std::sync::Wait;
+use std::thread::Threads;
 
-/// Does what the words say, which are those of a command line without the program's name, and writes one line or one
-/// report.
-pub fn jasign_run<F: Shelf, K: Sink>(
+/// Does what the words say, which are those of a command line without the program's name, and writes one line or one report. The
+/// workers of a sign-off pass the gate.
+pub fn jasign_run<F: Shelf, K: Sink, G: Gate + Sync, R: Threads + Wait + Sync>(
+    rt: &R,
     alloc: Global,
     words: &[String],
     shelf: &mut F,
     out: &mut K,
+    gate: &G,
 ) -> Ran
     ensures kept { F.holds shelf.new ≡ F.holds shelf.old }
     ensures means { (o : Outcomes)
@@ -32,15 +37,13 @@ pub fn jasign_run<F: Shelf, K: Sink>(
     ensures shelf_later { F.faults shelf.old ≤ F.faults shelf.new }
     ensures sink_later { K.faults out.old ≤ K.faults out.new }
 {
-    if let Some(names) = confirm_names(words) {
-        let status = confirm_run(alloc, names.design, names.stim, names.expect, shelf, out);
-        return Ran {
-            status,
+    match read_words(alloc, words) {
+        Ok(Words::Confirm(names)) => Ran {
+            status: confirm_run(alloc, names.design, names.stim, names.expect, shelf, out),
             report: None,
-        };
-    }
-    match sign_order(words) {
-        Some(order) => sign_run(alloc, order, shelf, out),
-        None => finish(alloc, Outcome::Stopped(Stop::Usage), out),
+        },
+        Ok(Words::Sign(order)) => sign_run(rt, alloc, order, shelf, out, gate),
+        Err(OrMemory::Refused(_)) => finish(alloc, Outcome::Stopped(Stop::Usage), out),
+        Err(OrMemory::Memory) => finish(alloc, Outcome::Stopped(Stop::Memory), out),
     }
 }

@@ -127,3 +127,22 @@ pub(crate) const ENDS: [Ends; 6] = [
         status: 0,
     },
 ];
+
+/// Two latches, the second one step behind the first, which is 1 from step 1 on; both properties are expected to hold. Worker 1
+/// fails the first one and ends the run; the calling thread, seat 0, gives up the other.
+pub(crate) const STOPPED_TEXT: &[u8] = b"jasign 1\n\
+    design 2 0 2 0 2 0\n\
+    b0 hold fails\n\
+    b1 hold unknown cancelled\n\
+    clauses 0\n\
+    stimulus b0\n1\nb0\n00\n\n\n.\n\
+    joined no\n\
+    set b0\n\
+    journal 6\n\
+    1 draw b0 at 0\n\
+    1 settle b0 fails at 0\n\
+    1 cancel b0 yes at 0\n\
+    1 draw none at 0\n\
+    0 cancel b0 no at 0\n\
+    0 giveup b1 yes at 0\n\
+    end\n";

@@ -4,12 +4,13 @@ use crate::jasign_run;
 use crate::rows::{EXPECTATIONS, REFUSALS, TWO_LATCHES};
 use crate::tests::{shelf_of, words_of};
 use ja_outside::MemSink;
+use ja_std::OpenGate;
 use std::alloc::Global;
 use std::test::Fail;
 
 /// The words name the files `d` and `s`, as many as there are; no report comes of them.
 fn check_fault(
-    rt: &(impl std::process::Abort + AllocGlobal),
+    rt: &HostRuntime,
     held: &[&[u8]],
     fails: Vec<u64>,
     words: &[&str],
@@ -20,7 +21,7 @@ fn check_fault(
     let mut shelf = shelf_of(alloc, held, 8, fails)?;
     let mut out = MemSink::new(alloc, 100)?;
     let words = words_of(alloc, words)?;
-    let ran = jasign_run(alloc, words.as_slice(), &mut shelf, &mut out);
+    let ran = jasign_run(rt, alloc, words.as_slice(), &mut shelf, &mut out, &OpenGate);
     assert_eq!(rt; out.bytes(), line);
     assert_eq!(rt; ran.status, status);
     assert!(rt; ran.report.is_none());

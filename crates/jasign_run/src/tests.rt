@@ -6,6 +6,7 @@ use aig_model::Design;
 use aiger_ascii::read_ascii;
 use aiger_binary::read_binary;
 use ja_outside::{MemShelf, MemSink};
+use ja_std::OpenGate;
 use std::alloc::{AllocError, Global};
 use std::test::Fail;
 
@@ -37,7 +38,7 @@ pub(crate) fn words_of(alloc: Global, words: &[&str]) -> Result<Vec<String>, All
 
 /// The words name the files `d`, `s` and `e`, as many as there are.
 fn check_case(
-    rt: &(impl std::process::Abort + AllocGlobal),
+    rt: &HostRuntime,
     case: &Case,
     held: &[&[u8]],
     piece: usize,
@@ -49,7 +50,7 @@ fn check_case(
     let mut shelf = shelf_of(alloc, held, piece, Vec::new(alloc))?;
     let mut out = MemSink::new(alloc, 100)?;
     let words = words_of(alloc, words)?;
-    let ran = jasign_run(alloc, words.as_slice(), &mut shelf, &mut out);
+    let ran = jasign_run(rt, alloc, words.as_slice(), &mut shelf, &mut out, &OpenGate);
     assert_eq!(rt; out.bytes(), case.line);
     assert_eq!(rt; ran.status, case.status);
     Ok(())
@@ -235,7 +236,7 @@ fn words_that_are_no_command(rt: HostRuntime) -> Result<(), Fail> {
         let mut shelf = shelf_of(alloc, &[], 8, Vec::new(alloc))?;
         let mut out = MemSink::new(alloc, 100)?;
         let words = words_of(alloc, list)?;
-        let ran = jasign_run(alloc, words.as_slice(), &mut shelf, &mut out);
+        let ran = jasign_run(&rt, alloc, words.as_slice(), &mut shelf, &mut out, &OpenGate);
         assert_eq!(rt; out.bytes(), b"fault: usage\n".as_slice());
         assert_eq!(rt; ran.status, 4);
     }

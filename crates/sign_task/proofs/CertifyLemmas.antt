@@ -1,6 +1,6 @@
 -- A board with a mark for each property, and the report that is made of it, give what a sign-off promises.
-use Rattle.std.proofs.Common.{◌≡◌, ℕ, ◌+◌, ◌<◌, ⊎_elim, true, false, Option, Some, List, [], ◌∷◌, length, slice_get, get_or, refl, sym, ap, subst, ◌∙◌, arith, IsTrue}
-use Rattle.std.specs.Prelude.{All, Contains}
+use Rattle.std.proofs.Common.{◌≡◌, ℕ, ◌+◌, ◌<◌, ⊎_elim, Bool, true, false, Option, Some, List, [], ◌∷◌, length, slice_get, get_or, refl, sym, ap, subst, ◌∙◌, arith, IsTrue}
+use Rattle.std.specs.Prelude.{All, Contains, is_some}
 use Rattle.std.proofs.lemmas.Bool.{cases_lt, false≢true}
 use Rattle.std.proofs.lemmas.List.{get_or_past, length-map}
 use Rattle.std.proofs.lemmas.Option.{slice_get-get_or}
@@ -39,20 +39,21 @@ use Rattle.sign_task.proofs.StimulusLemmas.{HasOne, has_one, stimulus_in}
 abbrev pub covering : Problem → List (List ℕ) → ℕ → Type 0
 covering u clauses p = Covers u.circuit clauses p
 
--- the board of a task without fail-fast, and the report that is made of it
-pub record IsEnd (t : VerificationTask) (o : Opening) (s : State) (failures : List Failure) (journal : List Entry)
+-- the board of a task that is over, and the report that is made of it
+pub record IsEnd (t : VerificationTask) (o : Opening) (s : State) (failures : List Failure) (journal : List Entry) (shown : Bool)
     (r : Findings) : Type 0 where
   pub board : IsBoard covering sufficient_budget (problem t) o s failures journal
   pub inductive : IsInductive (circuit t.design) t.expected s.clauses
   pub long : length t.expected ≡ length t.design.bads
-  pub going : o.fail_fast ≡ false
-  pub made : IsAssembled t s.marks s.clauses failures journal r
+  pub halted : (p : ℕ) → o.fail_fast ≡ true → bit t.expected p ≡ true → mark_of s.marks p ≡ Some Fails
+      → IsTrue (is_some s.cancel)
+  pub made : IsAssembled t s.marks s.clauses failures journal shown r
 
 All-one : {X : Type 0} (P : X → Type 0) (x : X) → P x → All P (x ∷ [])
 All-one P x h = All-cons P x [] h (All-nil P)
 
-module _ (t : VerificationTask) (o : Opening) (s : State) (failures : List Failure) (journal : List Entry) (r : Findings)
-    (e : IsEnd t o s failures journal r) where
+module _ (t : VerificationTask) (o : Opening) (s : State) (failures : List Failure) (journal : List Entry) (shown : Bool)
+    (r : Findings) (e : IsEnd t o s failures journal shown r) where
   abbrev marks : List Mark
   marks = marks_of r.lines
 
@@ -138,7 +139,10 @@ module _ (t : VerificationTask) (o : Opening) (s : State) (failures : List Failu
         ∙ sym e.made.marks_are;
     clauses = ap (λ (j : List Entry). (board_after o j).clauses) e.made.journal_is
         ∙ ap (λ (x : State). x.clauses) e.board.state_is ∙ sym e.made.clauses_are;
-    stopped = λ fast p held h. absurd (false≢true (sym e.going ∙ fast));
+    stopped = λ fast p held h.
+        subst (λ (x : State). IsTrue (is_some x.cancel)) (sym (ap (board_after o) e.made.journal_is ∙ e.board.state_is))
+        (e.halted p fast held (subst (λ (ms : List (Option Mark)). mark_of ms p ≡ Some Fails) e.made.marks_are
+        (mark_is marks p Fails h)));
   }
 
   still_shown : (p : ℕ) → HasMark r p Fails → IsShown (problem t) (failures_of r) p

@@ -26,6 +26,7 @@ use Rattle.report.specs.Findings.{Findings}
 use Rattle.report.specs.Reports.{HasWidths, IsReport, IsReportClause, IfShown, IsShownJournal}
 use Rattle.sign_task.specs.Sections.{sizes_of}
 use Rattle.sign_task.proofs.CertifyLemmas.{IsEnd, all_local}
+use Rattle.sign_task.proofs.JournalLemmas.{if_shown, shown_journal}
 
 -- a literal over a latch
 own_literal : (n : Netlist) → IsSound n → (clause : List ℕ) → is_foreign (circuit n) clause ≡ false
@@ -78,10 +79,10 @@ widths_of t x h =
     run_widths u rows all = subst (λ (n : ℕ). AllByRecursion (λ row. length row ≡ n) rows)
         (length-map u.design.inputs variable) all
 
-pub in_form : (t : VerificationTask) (o : Opening) (s : State) (failures : List Failure) (journal : List Entry) (r : Findings)
-    → IsEnd t o s failures journal r → IsSound t.design → All (λ c. is_foreign (circuit t.design) c ≡ false) s.clauses
+pub in_form : (t : VerificationTask) (o : Opening) (s : State) (failures : List Failure) (journal : List Entry) (shown : Bool)
+    (r : Findings) → IsEnd t o s failures journal shown r → IsSound t.design → All (λ c. is_foreign (circuit t.design) c ≡ false) s.clauses
     → All IsStrictlyIncreasing r.clauses → IsReport r
-in_form t o s failures journal r e sound own up = record {
+in_form t o s failures journal shown r e sound own up = record {
   lines = sym (length-map r.lines (λ (l : PropLine). l.assumed)) ∙ ap length e.made.lines ∙ e.long
       ∙ sym (ap (λ (z : Sizes). z.props) e.made.sizes);
   clauses = subst (λ (n : ℕ). AllByRecursion (IsReportClause n) r.clauses) (sym (ap (λ (z : Sizes). z.vars) e.made.sizes))
@@ -91,11 +92,11 @@ in_form t o s failures journal r e sound own up = record {
   widths = subst (λ (z : Sizes). AllByRecursion (HasWidths z) r.stimuli) (sym e.made.sizes)
       (recursion_from_All (HasWidths (sizes_of t.design)) r.stimuli (All-weaker
       (λ (x : PropStim). IsLocalFailure (problem t) x.prop x.stim) (HasWidths (sizes_of t.design)) (widths_of t) r.stimuli
-      (all_local t o s failures journal r e)));
+      (all_local t o s failures journal shown r e)));
   set_ascends = e.made.set.ascends;
   set_within = recursion_from_All (λ p. p < r.sizes.props) r.set
       (λ k d lt. within (get_or r.set k d) ((e.made.set.members (get_or r.set k d)).0 (Contains-get_or r.set k d lt)).0);
-  journal = subst (λ (b : Bool). IfShown b (IsShownJournal r)) (sym e.made.hidden) tt;
+  journal = if_shown r.shown (IsShownJournal r) (shown_journal t o s failures journal shown r e);
 }
   where
     within : (p : ℕ) → bit t.expected p ≡ true → p < r.sizes.props

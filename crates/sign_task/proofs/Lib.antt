@@ -6,4 +6,5 @@ pub mod CertifyLemmas
 pub mod FormLemmas
 pub mod EndLemmas
 pub mod JudgementLemmas
-pub mod DrawLemmas
+pub mod HaltLemmas
+pub mod JournalLemmas

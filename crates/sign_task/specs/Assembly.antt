@@ -1,5 +1,5 @@
 -- The report that is made of what a board leaves.
-use Rattle.std.specs.Prelude.{◌≡◌, ◌↔◌, ℕ, false, Option, Some, List, map, All, Contains, IsTrue}
+use Rattle.std.specs.Prelude.{◌≡◌, ◌↔◌, ℕ, Bool, Option, Some, List, map, All, Contains, IsTrue}
 use Rattle.aig_model.specs.Task.{VerificationTask}
 use Rattle.ja_base.specs.Failures.{Failure}
 use Rattle.local_stim.specs.Found.{FoundFailure}
@@ -19,9 +19,9 @@ abbrev pub plain_failures : List FoundFailure → List Failure
 plain_failures failures =
     map (λ (f : FoundFailure). record { property = f.prop; stimulus = f.stim }) failures
 
--- Each section is made of the marks, the clauses, the failures and the journal of the board; the journal is not shown.
+-- Each section is made of the marks, the clauses, the failures and the journal of the board; the journal is shown or not.
 pub record IsAssembled (t : VerificationTask) (marks : List (Option Mark)) (clauses : List (List ℕ))
-    (failures : List Failure) (journal : List Entry) (r : Findings) : Type 0 where
+    (failures : List Failure) (journal : List Entry) (shown : Bool) (r : Findings) : Type 0 where
   pub sizes : r.sizes ≡ sizes_of t.design
   pub lines : assumed_of r.lines ≡ t.expected
   pub marks_are : map Some (marks_of r.lines) ≡ marks
@@ -31,4 +31,4 @@ pub record IsAssembled (t : VerificationTask) (marks : List (Option Mark)) (clau
   pub joined : IsTrue r.joined ↔ IsJoined t.expected (marks_of r.lines)
   pub set : IsDebuggingSet t.expected (marks_of r.lines) r.set
   pub journal_is : r.journal ≡ journal
-  pub hidden : r.shown ≡ false
+  pub shown_is : r.shown ≡ shown

@@ -5,4 +5,4 @@ pub mod SignOff
 pub mod Assembly
 pub mod Underway
 pub mod Places
-pub mod Judgements
+pub mod Replies

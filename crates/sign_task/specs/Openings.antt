@@ -1,16 +1,21 @@
 -- How the board of a sign-off is opened, and what of a report marks are judged by.
-use Rattle.std.specs.Prelude.{ℕ, Bool, false, Option, Some, List, map}
+use Rattle.std.specs.Prelude.{ℕ, Bool, Some, List, map}
 use Rattle.ja_base.specs.Circuit.{Problem}
 use Rattle.ja_base.specs.Failures.{Failure}
 use Rattle.store_core.specs.declared.journal.Opening.{Opening}
 use Rattle.store_core.specs.Marks.{Evidence}
 use Rattle.report.specs.declared.parts.PropStim.{PropStim}
 use Rattle.report.specs.Findings.{Findings, marks_of}
+use Rattle.sign_task.specs.declared.terms.Terms.{Terms}
 
--- the properties are drawn in this order, and a failure does not end the run
-abbrev pub opening_of : List Bool → List ℕ → Option ℕ → Opening
-opening_of expected plan limit =
-    record { plan = plan; assumed = expected; fail_fast = false; limit = limit }
+-- the properties are drawn in this order, on these terms
+abbrev pub opening_of : List Bool → List ℕ → Terms → Opening
+opening_of expected plan terms = record {
+  plan = plan;
+  assumed = expected;
+  fail_fast = terms.fail_fast;
+  limit = terms.limit;
+}
 
 -- the failures whose stimuli the report has
 abbrev pub failures_of : Findings → List Failure

@@ -1,5 +1,5 @@
 -- What a sign-off promises of its report.
-use Rattle.std.specs.Prelude.{◌≡◌, ℕ, true, false, Option, Some, List, map, is_some, IsTrue}
+use Rattle.std.specs.Prelude.{◌≡◌, ℕ, true, Some, List, map, is_some, IsTrue}
 use Rattle.ja_base.specs.Literals.{bit}
 use Rattle.ja_base.specs.Budget.{sufficient_budget}
 use Rattle.ja_base.specs.Circuit.{Problem}
@@ -12,6 +12,7 @@ use Rattle.store_core.specs.Marks.{AreJustified}
 use Rattle.job_plan.specs.Plans.{IsPlan}
 use Rattle.report.specs.Findings.{Findings, marks_of}
 use Rattle.report.specs.Reports.{IsReport}
+use Rattle.sign_task.specs.declared.terms.Terms.{Terms}
 use Rattle.sign_task.specs.Openings.{evidence_of, opening_of}
 use Rattle.sign_task.specs.Sections.{HasFace, HasFailures, HasInvariant, HasMark, HasProofs}
 use Rattle.sign_task.specs.Joint.{HasSet, JoinsRightly}
@@ -44,11 +45,10 @@ pub record Certifies (t : Problem) (o : Opening) (r : Findings) : Type 0 where
   pub journal : HasJournal t o r
   pub unknown : HasCauses t o r
 
--- The report of a sign-off of the task, with this budget for each property: it is of its design and in form, and what it says is
--- certified.
-pub record IsSignOff (t : VerificationTask) (limit : Option ℕ) (r : Findings) : Type 0 where
+-- The report of a sign-off of the task on these terms: it is of its design and in form, and what it says is certified.
+pub record IsSignOff (t : VerificationTask) (terms : Terms) (r : Findings) : Type 0 where
   pub plan : List ℕ
   pub plan_is : IsPlan (problem t) plan
-  pub face : HasFace t.design t.expected false r
+  pub face : HasFace t.design t.expected terms.journal r
   pub form : IsReport r
-  pub promises : Certifies (problem t) (opening_of t.expected plan limit) r
+  pub promises : Certifies (problem t) (opening_of t.expected plan terms) r

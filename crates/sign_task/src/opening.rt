@@ -1,8 +1,9 @@
 //! The board of a sign-off as it begins.
 
 ghost use Rattle.std.specs.Prelude.{◌≡◌, OnOk, IfOk};
-ghost use Rattle.sign_task.specs.Underway.{IsUnderway, AreMarked};
+ghost use Rattle.sign_task.specs.Underway.{IsUnderway};
 
+use crate::terms::Terms;
 use aig_model::{Expect, Task};
 use inv_cert::Closed;
 use ja_base::{Memory, Row};
@@ -24,19 +25,17 @@ fn assumed_row(alloc: Global, expect: &Expect) -> Result<Row, Memory>
     Ok(Row::from_bits(bits))
 }
 
-/// The properties are drawn as planned, and a failure does not end the run.
-pub(crate) fn open(alloc: Global, task: &Task, limit: Option<u64>) -> Result<SignBoard, Memory>
-    ensures underway { IfOk result (IsUnderway task.now) }
-    ensures limit { IfOk result (λ board. board.opening.limit ≡ limit) }
-    ensures marked { IfOk result AreMarked }
+/// The properties are drawn as planned, on these terms.
+pub(crate) fn open(alloc: Global, task: &Task, terms: Terms) -> Result<SignBoard, Memory>
+    ensures underway { IfOk result (IsUnderway task.now terms) }
 {
     let plan = plan(alloc, task)?;
     let assumed = assumed_row(alloc, task.expect())?;
     let opening = Opening {
         plan,
         assumed,
-        fail_fast: false,
-        limit,
+        fail_fast: terms.fail_fast,
+        limit: terms.limit,
     };
     let list = Closed::empty(alloc, task)?;
     let board = Board::new(alloc, opening, list)?;

@@ -5,11 +5,12 @@ ghost use Rattle.std.specs.List.Sorted.{IsStrictlyIncreasing};
 ghost use Rattle.aig_model.specs.Netlist.{IsSound};
 ghost use Rattle.sign_task.specs.Sections.{sizes_of};
 ghost use Rattle.sign_task.specs.SignOff.{IsSignOff};
-ghost use Rattle.sign_task.specs.Underway.{IsUnderway, IsOver};
+ghost use Rattle.sign_task.specs.Underway.{IsUnderway, IsHalted, IsOver};
 
 use crate::marks::{lines_of, marks_of};
 use crate::opening::SignBoard;
 use crate::stimuli::stimuli_of;
+use crate::terms::Terms;
 use aig_model::{Design, Task};
 use debug_set::{debugging_set, first_broken_is_named, is_joined};
 use inv_cert::Closed;
@@ -52,10 +53,16 @@ fn clauses_of(alloc: Global, list: &Closed) -> Result<ClauseList, Memory>
 }
 
 /// The journal is moved from the board to the report.
-pub(crate) fn report_of(alloc: Global, task: &Task, board: SignBoard) -> Result<Report, Memory>
-    requires underway { IsUnderway task.now board }
+pub(crate) fn report_of(
+    alloc: Global,
+    task: &Task,
+    terms: Terms,
+    board: SignBoard,
+) -> Result<Report, Memory>
+    requires underway { IsUnderway task.now terms board }
+    requires halted { IsHalted task.now board }
     requires over { IsOver task.now board }
-    ensures { IfOk result (IsSignOff task.now board.opening.limit) }
+    ensures { IfOk result (IsSignOff task.now terms) }
 {
     let parts = board.into_parts();
     parts.list.is_closed();
@@ -74,6 +81,6 @@ pub(crate) fn report_of(alloc: Global, task: &Task, board: SignBoard) -> Result<
         joined: is_joined(expect, marks),
         set,
         journal: parts.journal,
-        shown: false,
+        shown: terms.journal,
     })
 }

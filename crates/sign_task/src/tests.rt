@@ -2,16 +2,17 @@
 
 ghost use Rattle.std.specs.Prelude.{◌≡◌, ◌<◌, length, IfSome};
 
-use crate::sign;
+use crate::{Terms, sign};
 use aig_model::{Expect, Task};
 use aiger_ascii::read_ascii;
 use debug_set::status_of;
+use ja_std::OpenGate;
 use report::Report;
 use sat_plain::PlainSat;
 use std::alloc::Global;
 use std::test::Fail;
 use store_core::Mark;
-use store_core::Mark::{Budget, Fails, Proved};
+use store_core::Mark::{Budget, Cancelled, Fails, Proved};
 
 /// Two latches: the first is 1 from step 1 on, the second one step later.
 const TWO: &[u8] = b"aag 2 0 2 0 0 2\n2 1\n4 2\n2\n4\n";
@@ -214,10 +215,43 @@ fn signs_worked_designs(rt: HostRuntime) -> Result<(), Fail> {
         .enumerate()
     {
         let task = task(alloc, text, failing).ok_or("no design")?;
-        let report = sign::<PlainSat, PlainSat>(alloc, &task, limit)?;
-        assert!(rt; has_marks(&report, marks), "{number}");
-        assert!(rt; is_as_expected(&report, clauses, joined, set), "{number}");
+        let (fail_fast, journal) = (false, false);
+        let terms = Terms {
+            limit,
+            fail_fast,
+            journal,
+        };
+        for workers in [1, 4] {
+            let report = sign::<PlainSat, PlainSat, OpenGate, HostRuntime>(
+                &rt, alloc, &task, terms, workers, &OpenGate,
+            )?;
+            assert!(rt; has_marks(&report, marks), "{number}");
+            assert!(rt; is_as_expected(&report, clauses, joined, set), "{number}");
+        }
         assert_eq!(rt; status(task.expect(), marks), Some(found));
+    }
+    Ok(())
+}
+
+// The second property is given up behind the failure of the first one; where that is expected to fail, it ends nothing.
+#[test]
+fn stops_at_the_first_failure(rt: HostRuntime) -> Result<(), Fail> {
+    let alloc = rt.alloc();
+    for (failing, marks) in [
+        (NONE, &[Fails, Cancelled]),
+        ([true, false, false], &[Fails, Fails]),
+    ] {
+        let task = task(alloc, TWO, failing).ok_or("no design")?;
+        let terms = Terms {
+            limit: None,
+            fail_fast: true,
+            journal: true,
+        };
+        let report = sign::<PlainSat, PlainSat, OpenGate, HostRuntime>(
+            &rt, alloc, &task, terms, 1, &OpenGate,
+        )?;
+        assert!(rt; has_marks(&report, marks.as_slice()));
+        assert!(rt; report.shown);
     }
     Ok(())
 }

@@ -1,15 +1,16 @@
-//! One question to the engine of a worker.
+//! One question to an engine, and its answer as a judgement.
 
-ghost use Rattle.std.specs.Prelude.{◌≡◌, ◌<◌, true, Some, length, slice_set, IfOk, IfSome};
+ghost use Rattle.std.specs.Prelude.{◌≡◌, ◌<◌, true, Some, None, length, slice_set, IfOk, IfSome};
+ghost use Rattle.ja_outside.specs.Flags.{IsPolled, IsFoundRaised};
 ghost use Rattle.store_core.specs.declared.answers.Judged.TheVariants as judged;
 ghost use Rattle.store_core.specs.Judged.{IfFails};
-ghost use Rattle.worker_pool.specs.Judgements.{IsEngine, IsJudgement};
+ghost use Rattle.worker_pool.specs.Judgements.{IsEngine, IsJudgement, judged_property};
 
-use cancel_flag::FlagView;
 use ic3_engine::{Engine, Found, prove};
 use ic3_query::Halt;
 use inv_cert::Closed;
 use ja_base::{Memory, Meter};
+use ja_outside::Flag;
 use ja_project::Coded;
 use local_stim::LocalFailure;
 use sat_plain::{Probe, Sat};
@@ -17,7 +18,7 @@ use std::alloc::Global;
 use store_core::Judged;
 
 /// A proof, a failure, or that the budget was spent.
-pub(crate) type Judgement = Judged<Closed, LocalFailure>;
+pub type Judgement = Judged<Closed, LocalFailure>;
 
 /// What was spent is the meter's limit.
 fn spent(meter: &Meter) -> Judgement
@@ -30,14 +31,15 @@ fn spent(meter: &Meter) -> Judgement
     Judged::Spent(note)
 }
 
-/// None where the flag stopped it.
-pub(crate) fn ask<S: Probe, L: Sat>(
+/// A proof of the property, a failure of it or of another one that was not seen to fail before, or that the meter's limit was
+/// spent. None where the flag stopped it.
+pub fn ask<S: Probe, L: Sat, F: Flag>(
     alloc: Global,
     coded: &Coded,
     prop: u32,
     engine: &mut Engine<S>,
     meter: &mut Meter,
-    flag: &mut FlagView<'_>,
+    flag: &mut F,
 ) -> Result<Option<Judgement>, Memory>
     requires within { prop < length coded.now.design.bads }
     requires engine { IsEngine S.count S.added coded.now engine.old }
@@ -47,13 +49,25 @@ pub(crate) fn ask<S: Probe, L: Sat>(
     ensures seen { IfOk result (λ answer. IfSome answer (λ judged. IfFails judged
         (λ f. engine.new.failed ≡ slice_set engine.old.failed f.prop true))) }
     ensures limit { meter.new.limit ≡ meter.old.limit }
-    ensures flag { flag.new.may ≡ flag.old.may }
+    ensures stopped { IfOk result (λ answer. answer ≡ None
+        → IsFoundRaised F.may_rise F.raised flag.old flag.new) }
+    ensures flag { IsPolled F.may_rise F.raised flag.old flag.new }
 {
-    match prove::<S, L, FlagView<'_>>(alloc, coded, prop, engine, meter, flag) {
+    match prove::<S, L, F>(alloc, coded, prop, engine, meter, flag) {
         Ok(Found::Proved(proved)) => Ok(Some(Judged::Proved(proved.list))),
         Ok(Found::Fails(failure)) => Ok(Some(Judged::Fails(failure))),
         Err(Halt::Spent) => Ok(Some(spent(meter))),
         Err(Halt::Stopped) => Ok(None),
         Err(Halt::Memory) => Err(Memory),
+    }
+}
+
+/// The property that the judgement is of, where this one was asked for.
+pub fn judged_property(judged: &Judgement, prop: u32) -> u32
+    ensures { result ≡ judged_property judged.now prop }
+{
+    match judged {
+        Judged::Fails(failure) => failure.prop(),
+        _ => prop,
     }
 }

@@ -3,10 +3,10 @@
 ghost use Rattle.std.specs.Prelude.{◌≡◌, ◌<◌, ◌⊎◌, length, IfOk};
 ghost use Rattle.store_core.specs.Judged.{IfFails};
 ghost use Rattle.desk.specs.Seats.{IsLater};
-ghost use Rattle.worker_pool.specs.Judgements.{IsEngine, judged_property, unset};
+ghost use Rattle.worker_pool.specs.Judgements.{IsEngine, unset};
 ghost use Rattle.worker_pool.specs.Pools.{IsPool};
 
-use crate::asking::{Judgement, ask};
+use crate::asking::{Judgement, ask, judged_property};
 use cancel_flag::{CancelFlag, FlagView};
 use desk::{Desk, Seat};
 use ic3_engine::Engine;
@@ -18,16 +18,6 @@ use sat_plain::{Probe, Sat};
 use std::alloc::Global;
 use std::sync::Wait;
 use store_core::{Judged, Naming, Reply};
-
-/// The property that the judgement is of, where this one was asked for.
-fn judged_property(judged: &Judgement, prop: u32) -> u32
-    ensures { result ≡ judged_property judged.now prop }
-{
-    match judged {
-        Judged::Fails(failure) => failure.prop(),
-        _ => prop,
-    }
-}
 
 /// Whether it is a failure, of a property that is expected to hold.
 fn is_unexpected(coded: &Coded, judged: &Judgement) -> bool
@@ -86,7 +76,8 @@ fn turn<S: Probe, L: Sat, N: Naming, R: Wait>(
 {
     let _task = coded.task();
     let mut view = flag.view();
-    let Some(judged) = ask::<S, L>(alloc, coded, prop, engine, meter, &mut view)? else {
+    let Some(judged) = ask::<S, L, FlagView<'_>>(alloc, coded, prop, engine, meter, &mut view)?
+    else {
         desk.give_up(rt, alloc, seat, prop)?;
         return Ok(prop);
     };

@@ -10,4 +10,5 @@ mod pool;
 mod tests;
 mod work;
 
+pub use asking::{Judgement, ask, judged_property};
 pub use pool::work_all;

@@ -1,4 +1,4 @@
-use Rattle.std.proofs.Common.{◌≡◌, ◌<◌, false, Some, List, length, map, refl, sym, ◌∙◌, ap, subst}
+use Rattle.std.proofs.Common.{◌≡◌, ◌<◌, Some, List, length, map, refl, sym, ◌∙◌, ap, subst}
 use Rattle.std.specs.Prelude.{All}
 use Rattle.aig_model.specs.Netlist.{IsSound}
 use Rattle.inv_cert.specs.Closed.{ClosedList}
@@ -13,9 +13,9 @@ use Rattle.sign_task.proofs.reporting.report_of.Goals as goal
 pub stimuli_of-requires-clause-within : goal.stimuli_of-requires-clause-within
 stimuli_of-requires-clause-within c =
     let parts = c.into_parts-parts.ensures in
-    let left = left_of c.args.task.now c.args.board c.into_parts-parts.result.list c.requires.underway parts.sound
+    let left = left_of c.args.task.now c.args.terms c.args.board c.into_parts-parts.result.list c.requires.underway c.requires.halted parts.sound
     c.is_closed.ensures.closed parts.list parts.clauses in
-    let h = failures_within c.args.task.now c.args.board c.in_ok-kept.kept.items left
+    let h = failures_within c.args.task.now c.args.terms c.args.board c.in_ok-kept.kept.items left
     (c.in_ok-kept.ensures ∙ c.as_slice.ensures.value ∙ parts.marks) in
     let same : c.as_slice-2.result.now ≡ c.args.board.failures = c.as_slice-2.ensures.value ∙ parts.failures in
     subst (λ (fs : List FoundFailure). All (λ (f : FoundFailure). f.prop < length c.as_slice-marks.result.now) fs) (sym same)
@@ -25,9 +25,9 @@ stimuli_of-requires-clause-within c =
 pub stimuli_of-requires-clause-each : goal.stimuli_of-requires-clause-each
 stimuli_of-requires-clause-each c =
     let parts = c.into_parts-parts.ensures in
-    let left = left_of c.args.task.now c.args.board c.into_parts-parts.result.list c.requires.underway parts.sound
+    let left = left_of c.args.task.now c.args.terms c.args.board c.into_parts-parts.result.list c.requires.underway c.requires.halted parts.sound
     c.is_closed.ensures.closed parts.list parts.clauses in
-    let h = all_have_failure c.args.task.now c.args.board c.in_ok-kept.kept.items left
+    let h = all_have_failure c.args.task.now c.args.terms c.args.board c.in_ok-kept.kept.items left
     (c.in_ok-kept.ensures ∙ c.as_slice.ensures.value ∙ parts.marks) in
     let same : c.as_slice-2.result.now ≡ c.args.board.failures = c.as_slice-2.ensures.value ∙ parts.failures in
     subst (λ (fs : List FoundFailure). AllHaveFailure fs c.as_slice-marks.result.now) (sym same)
@@ -36,7 +36,7 @@ stimuli_of-requires-clause-each c =
 pub invariant_of-result : goal.invariant_of-result
 invariant_of-result c =
     let parts = c.into_parts-parts.ensures in
-    let left = left_of c.args.task.now c.args.board c.into_parts-parts.result.list c.requires.underway parts.sound
+    let left = left_of c.args.task.now c.args.terms c.args.board c.into_parts-parts.result.list c.requires.underway c.requires.halted parts.sound
     c.is_closed.ensures.closed parts.list parts.clauses in
     let report : Findings = record {
       sizes = c.sizes_of.result;
@@ -46,9 +46,9 @@ invariant_of-result c =
       joined = c.is_joined.result;
       set = c.in_ok-set.set;
       journal = c.into_parts-parts.result.journal;
-      shown = false;
+      shown = c.args.terms.journal;
     } in
-    let made : IsMade c.args.task.now c.args.board c.expect-expect.result.now c.as_slice-marks.result.now c.as_slice-2.result.now
+    let made : IsMade c.args.task.now c.args.terms c.args.board c.expect-expect.result.now c.as_slice-marks.result.now c.as_slice-2.result.now
     report = record {
       expected_are = c.expect-expect.ensures.value;
       slots_are = ap (map Some) c.as_slice-marks.ensures.value ∙ c.in_ok-kept.ensures ∙ c.as_slice.ensures.value ∙ parts.marks;
@@ -62,19 +62,19 @@ invariant_of-result c =
       joined = c.is_joined.ensures;
       set = c.in_ok-set.ensures;
       journal = parts.journal;
-      hidden = refl;
+      shown_is = refl;
     } in
-    let all = assembled c.args.task.now c.args.board c.expect-expect.result.now c.as_slice-marks.result.now c.as_slice-2.result.now
+    let all = assembled c.args.task.now c.args.terms c.args.board c.expect-expect.result.now c.as_slice-marks.result.now c.as_slice-2.result.now
     report left made in
     let sound = subst IsSound c.design.ensures.value c.sizes_of.ensures.sound in
-    let form = report_in_form c.args.task.now c.args.board report left c.design.ensures.expected all sound
+    let form = report_in_form c.args.task.now c.args.terms c.args.board report left c.design.ensures.expected all sound
     c.in_ok-clauses.ensures.ascend in
     form
 
 pub returns : goal.returns
 returns c =
     let parts = c.into_parts-parts.ensures in
-    let left = left_of c.args.task.now c.args.board c.into_parts-parts.result.list c.requires.underway parts.sound
+    let left = left_of c.args.task.now c.args.terms c.args.board c.into_parts-parts.result.list c.requires.underway c.requires.halted parts.sound
     c.is_closed.ensures.closed parts.list parts.clauses in
     let report : Findings = record {
       sizes = c.sizes_of.result;
@@ -84,9 +84,9 @@ returns c =
       joined = c.is_joined.result;
       set = c.in_ok-set.set;
       journal = c.into_parts-parts.result.journal;
-      shown = false;
+      shown = c.args.terms.journal;
     } in
-    let made : IsMade c.args.task.now c.args.board c.expect-expect.result.now c.as_slice-marks.result.now c.as_slice-2.result.now
+    let made : IsMade c.args.task.now c.args.terms c.args.board c.expect-expect.result.now c.as_slice-marks.result.now c.as_slice-2.result.now
     report = record {
       expected_are = c.expect-expect.ensures.value;
       slots_are = ap (map Some) c.as_slice-marks.ensures.value ∙ c.in_ok-kept.ensures ∙ c.as_slice.ensures.value ∙ parts.marks;
@@ -100,11 +100,11 @@ returns c =
       joined = c.is_joined.ensures;
       set = c.in_ok-set.ensures;
       journal = parts.journal;
-      hidden = refl;
+      shown_is = refl;
     } in
-    let all = assembled c.args.task.now c.args.board c.expect-expect.result.now c.as_slice-marks.result.now c.as_slice-2.result.now
+    let all = assembled c.args.task.now c.args.terms c.args.board c.expect-expect.result.now c.as_slice-marks.result.now c.as_slice-2.result.now
     report left made in
     let sound = subst IsSound c.design.ensures.value c.sizes_of.ensures.sound in
-    let form = report_in_form c.args.task.now c.args.board report left c.design.ensures.expected all sound
+    let form = report_in_form c.args.task.now c.args.terms c.args.board report left c.design.ensures.expected all sound
     c.in_ok-clauses.ensures.ascend in
-    signs_off c.args.task.now c.args.board report left c.design.ensures.expected all form c.first_broken_is_named.ensures
+    signs_off c.args.task.now c.args.terms c.args.board report left c.design.ensures.expected all form c.first_broken_is_named.ensures
