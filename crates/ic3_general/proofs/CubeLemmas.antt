@@ -8,7 +8,7 @@ use Rattle.std.proofs.lemmas.List.{length-map}
 use Rattle.std.proofs.lemmas.List.Elements.{Contains-push_cases}
 use Rattle.std.proofs.lemmas.Option.{slice_get_read, slice_get_within, get_or_from_slice_get}
 use Rattle.ja_base.specs.Literals.{bit, variable, negated, is_negated, with_sign, value}
-use Rattle.ja_base.specs.Clauses.{IsSetOf, has_literal}
+use Rattle.ja_base.specs.Clauses.{has_literal}
 use Rattle.ja_base.specs.Circuit as plain
 use Rattle.ja_base.specs.Invariants.{latch_value}
 use Rattle.ja_base.specs.Valuation.{latch_row}
@@ -19,7 +19,6 @@ use Rattle.aig_model.specs.Netlist.{Netlist, IsSound, circuit, latch_of}
 use Rattle.aig_model.proofs.Places.{get_map, map_cases}
 use Rattle.refute_check.specs.Refuted.{has_both_signs}
 use Rattle.ja_project.specs.Latches.{is_foreign, is_over_latch}
-use Rattle.ja_project.proofs.StartLemmas.{own_vars, latch_value_at, made_of_latches}
 use Rattle.ja_project.proofs.ValueLemmas.{now_value}
 use Rattle.ic3_general.specs.Cubes.{IsOutside, unmet_literal, unmet_literals}
 use Rattle.ic3_general.specs.Dropping.{IsAmongUnmet, HasUnmet}

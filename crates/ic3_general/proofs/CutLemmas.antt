@@ -1,9 +1,9 @@
 -- Parts of clauses: by a core, and what the shrinking keeps.
-use Rattle.std.proofs.Common.{◌≡◌, ℕ, suc, zero, ◌<◌, ◌==◌, ◌&&◌, ◌||◌, Bool, true, false, not, cond, List, [], ◌∷◌, ◌++◌, get_or, refl, sym, ap, ◌∙◌, subst, arith, ⊎_elim, ◌⊎◌}
-use Rattle.std.specs.Prelude.{All, Contains, filter}
-use Rattle.std.specs.List.{list_any, list_all}
-use Rattle.std.proofs.lemmas.Bool.{or_parts, or_from, not-false, false_from_ne_true, both_ways}
-use Rattle.std.proofs.lemmas.List.Elements.{All-contains, All-from_recursion, All-append, Contains-get_or, Contains-append_left, Contains-push, Contains-push_cases}
+use Rattle.std.proofs.Common.{◌≡◌, ℕ, ◌==◌, Bool, true, false, not, cond, List, [], ◌∷◌, ◌++◌, get_or, refl, sym, ap, ◌∙◌, subst, arith, ⊎_elim, ◌⊎◌}
+use Rattle.std.specs.Prelude.{Contains, filter}
+use Rattle.std.specs.List.{list_all}
+use Rattle.std.proofs.lemmas.Bool.{or_parts, or_from, false_from_ne_true, both_ways}
+use Rattle.std.proofs.lemmas.List.Elements.{All-contains, All-from_recursion, Contains-get_or, Contains-append_left, Contains-push, Contains-push_cases}
 use Rattle.std.proofs.lemmas.List.Folds.{list_any_at}
 use Rattle.ja_base.specs.Clauses.{IsSetOf, has_literal, is_part}
 use Rattle.ja_base.specs.Literals.{negated}
@@ -19,7 +19,7 @@ use Rattle.ja_project.proofs.ForeignLemmas.{all_over}
 use Rattle.ic3_frames.specs.Levels.{Levels}
 use Rattle.ic3_query.specs.declared.asked.Asked.{Asked}
 use Rattle.ic3_query.specs.declared.asked.Asked.TheVariants.{Before, Blocked}
-use Rattle.ic3_query.specs.Questions.{AnswersFor, IsBlockedBy, IsKeptAt, IsPartFor}
+use Rattle.ic3_query.specs.Questions.{AnswersFor, IsBlockedBy, IsPartFor}
 use Rattle.ic3_general.specs.Lifting.{without}
 use Rattle.ic3_general.specs.Shrinking.{IsAfter, IsCut, IsShrunk, IsStartingPart, is_rested_on}
 use Rattle.ic3_general.proofs.CubeLemmas.{all_pass, none_pass, passes_none}

@@ -1,7 +1,7 @@
 -- Literals are dropped one by one: what stays right, and what holds at the end.
-use Rattle.std.proofs.Common.{◌≡◌, ℕ, suc, zero, ◌+◌, ◌*◌, ◌<◌, ◌≤◌, ◌==◌, ◌&&◌, ◌||◌, eqb, Bool, true, false, not, cond, List, [], ◌∷◌, ◌++◌, length, get_or, set, drop, refl, sym, ap, ap₂, ◌∙◌, subst, arith, length-set, get_or-set_other, get_or-set_same, append_assoc, ⊎_elim, ◌⊎◌, inl, inr}
-use Rattle.std.specs.Prelude.{All, Any, Contains, filter}
-use Rattle.std.specs.List.{list_any, list_all}
+use Rattle.std.proofs.Common.{◌≡◌, ℕ, suc, zero, ◌+◌, ◌*◌, ◌<◌, ◌==◌, ◌||◌, Bool, true, false, not, cond, List, [], ◌∷◌, ◌++◌, length, set, refl, sym, ap, ◌∙◌, subst, arith, length-set, get_or-set_other, get_or-set_same, append_assoc, ⊎_elim, ◌⊎◌, inl, inr}
+use Rattle.std.specs.Prelude.{Contains, filter}
+use Rattle.std.specs.List.{list_all}
 use Rattle.std.specs.List.Sorted.{IsStrictlyIncreasing}
 use Rattle.std.proofs.lemmas.Bool.{false≢true, cases_Bool, eqb-true, eqb-false, eq-eqb, or_parts, or_from}
 use Rattle.std.proofs.lemmas.List.Elements.{Contains-append_left, Contains-append_right, Contains-append_cases, Contains-push_cases}
@@ -11,12 +11,12 @@ use Rattle.ja_base.specs.Clauses.{IsSetOf, has_literal}
 use Rattle.ja_base.specs.Circuit.{Circuit, IsAcyclic}
 use Rattle.ja_base.specs.Invariants.{latch_value}
 use Rattle.ja_base.specs.Valuation.{IsValuation, latch_row, input_row}
-use Rattle.ja_base.proofs.ClauseLemmas.{has_literal_decides, IsAbove, Ascends, Ascends-from_increasing, absent_from_above}
+use Rattle.ja_base.proofs.ClauseLemmas.{Ascends, Ascends-from_increasing, absent_from_above}
 use Rattle.ja_base.proofs.LiteralLemmas.{variable_negated, negated_twice}
 use Rattle.ja_project.specs.Latches.{is_over_latch}
 use Rattle.ic3_general.specs.Cubes.{IsOutside}
 use Rattle.ic3_general.specs.Lifting.{without, HasLeaves, IsSureRow, MakesSure, IsLeast}
-use Rattle.ic3_general.specs.Dropping.{IsPartWithout, IsNeeded, HasNoneTwice, IsLifting, Stands, IsDropped, IsKept}
+use Rattle.ic3_general.specs.Dropping.{IsNeeded, HasNoneTwice, IsLifting, Stands, IsDropped, IsKept}
 use Rattle.ic3_general.proofs.CubeLemmas.{none_pass, passes_none}
 use Rattle.ic3_general.proofs.SureLemmas.{makes_sure, part_leaves_unsure, over_negated}
 

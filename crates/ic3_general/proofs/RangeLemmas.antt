@@ -1,9 +1,7 @@
 -- The gates of a sound design have their right sides in range, and a whole row makes its target sure.
-use Rattle.std.proofs.Common.{◌≡◌, ℕ, ◌+◌, ◌*◌, ◌<◌, ◌≤◌, Bool, true, List, Some, length, get_or, subst, arith}
+use Rattle.std.proofs.Common.{◌≡◌, ℕ, ◌+◌, ◌≤◌, Bool, true, List, get_or, subst, arith}
 use Rattle.std.specs.Prelude.{All}
 use Rattle.std.specs.List.{list_all}
-use Rattle.std.specs.FinMap as finite_map
-use Rattle.std.proofs.lemmas.List.Elements.{All-weaker}
 use Rattle.ja_base.specs.Literals.{bit, variable, value}
 use Rattle.ja_base.specs.Clauses.{IsSetOf, IsBelow}
 use Rattle.ja_base.specs.Valuation.{IsValuation, latch_row, input_row}

@@ -1,9 +1,6 @@
 -- What is known says no more than the levels, where each known clause is blocked at the top.
-use Rattle.std.proofs.Common.{◌≡◌, ℕ, ◌≤◌, suc, zero, Bool, true, List, [], get_or}
-use Rattle.std.specs.Prelude.{All}
-use Rattle.ja_base.specs.Circuit.{Circuit}
-use Rattle.ja_base.specs.Invariants.{MeetsClauses, latch_value}
-use Rattle.ja_base.specs.Literals.{SatisfiedBy}
+use Rattle.std.proofs.Common.{ℕ, ◌≤◌, suc, zero, Bool, List, [], get_or}
+use Rattle.ja_base.specs.Invariants.{MeetsClauses}
 use Rattle.aig_model.specs.Netlist.{circuit}
 use Rattle.aig_model.specs.Task.{VerificationTask, problem}
 use Rattle.ic3_frames.specs.Levels.{Levels}

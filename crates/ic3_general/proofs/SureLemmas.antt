@@ -1,10 +1,10 @@
 -- The three-valued rule: what is surely 1 is 1 in each row of the cube, a part of a clause makes no more literals sure, and the
 -- clause of a whole row makes all sure that are 1.
-use Rattle.std.proofs.Common.{◌≡◌, ℕ, suc, zero, ◌+◌, ◌*◌, ◌<◌, ◌≤◌, ◌%◌, ◌==◌, ◌&&◌, ◌||◌, Bool, true, false, not, List, Some, is_some, length, map, get_or, slice_get, [], ◌∷◌, refl, sym, ap, ap₂, ◌∙◌, subst, arith, eqb-true, ⊎_elim, ◌⊎◌, inl, inr}
+use Rattle.std.proofs.Common.{◌≡◌, ℕ, suc, zero, ◌+◌, ◌*◌, ◌<◌, ◌≤◌, ◌%◌, ◌==◌, ◌&&◌, ◌||◌, Bool, true, false, not, List, Some, is_some, length, get_or, slice_get, [], ◌∷◌, refl, sym, ap, ap₂, ◌∙◌, subst, arith, eqb-true, ⊎_elim, ◌⊎◌, inl, inr}
 use Rattle.std.specs.Prelude.{All, Any, Contains}
 use Rattle.std.specs.List.{list_any, list_all}
 use Rattle.std.specs.FinMap as finite_map
-use Rattle.std.proofs.lemmas.Bool.{false≢true, cases_Bool, cases_lt, or_cases, or_left, or_right, and_parts, and_from, and_cases, not-true, not-false, not_from_false, false_from_ne_true}
+use Rattle.std.proofs.lemmas.Bool.{false≢true, cases_Bool, cases_lt, or_cases, or_left, or_right, and_parts, and_from, and_cases, not-false, false_from_ne_true}
 use Rattle.std.proofs.lemmas.Bool.Decides.{nat_tests}
 use Rattle.std.proofs.lemmas.List.{get_or_past}
 use Rattle.std.proofs.lemmas.List.Elements.{All-weaker, All-tail}
@@ -15,14 +15,14 @@ use Rattle.ja_base.specs.Circuit.{Circuit, Latch, IsAcyclic, is_defined}
 use Rattle.ja_base.specs.Invariants.{latch_value}
 use Rattle.ja_base.specs.Valuation.{IsValuation, latch_row, input_row}
 use Rattle.ja_base.proofs.ClauseLemmas.{has_literal_decides}
-use Rattle.ja_base.proofs.LiteralLemmas.{value_negated, variable_negated, negated_twice}
+use Rattle.ja_base.proofs.LiteralLemmas.{value_negated, variable_negated}
 use Rattle.aig_eval.proofs.PlaceLemmas.{map_at}
 use Rattle.aig_eval.proofs.DefinedLemmas.{found_in, some_value}
 use Rattle.ja_project.specs.Latches.{is_over_latch}
 use Rattle.ja_project.proofs.ValueLemmas.{now_value}
 use Rattle.ja_project.proofs.StepLemmas.{variable_of}
 use Rattle.ic3_general.specs.Cubes.{IsOutside}
-use Rattle.ic3_general.specs.Lifting.{HasLeaves, IsSureRow, MakesSure}
+use Rattle.ic3_general.specs.Lifting.{IsSureRow, MakesSure}
 use Rattle.ic3_general.specs.Dropping.{HasUnmet}
 use Rattle.ic3_general.proofs.CubeLemmas.{passes_none}
 

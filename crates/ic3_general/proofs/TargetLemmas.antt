@@ -1,5 +1,5 @@
 -- Where the target literals are 1 the step leads on, and they are 1 in a step that does.
-use Rattle.std.proofs.Common.{◌≡◌, ℕ, suc, zero, ◌+◌, ◌%◌, ◌<◌, ◌==◌, eqb, Bool, true, false, cond, List, [], ◌∷◌, ◌++◌, Some, length, get_or, map, drop, slice_get, refl, sym, ap, ◌∙◌, subst, arith, add-one, length-append, eq-eqb, eqb-true}
+use Rattle.std.proofs.Common.{◌≡◌, ℕ, suc, ◌+◌, ◌%◌, ◌<◌, ◌==◌, Bool, true, false, cond, List, [], ◌∷◌, ◌++◌, Some, length, get_or, drop, slice_get, refl, sym, ap, ◌∙◌, subst, arith, add-one, length-append, eq-eqb}
 use Rattle.std.specs.Prelude.{All}
 use Rattle.std.specs.List.{list_any}
 use Rattle.std.proofs.Math.Seq.{drop-cons}
@@ -9,7 +9,6 @@ use Rattle.std.proofs.lemmas.List.Elements.{All-from_recursion, All-append, All-
 use Rattle.std.proofs.lemmas.Option.{slice_get_within, get_or_from_slice_get, slice_get-get_or}
 use Rattle.ja_base.specs.Literals.{bit, value, variable, negated}
 use Rattle.ja_base.specs.Clauses.{IsBelow}
-use Rattle.ja_base.specs.Circuit.{Problem}
 use Rattle.ja_base.specs.Invariants.{latch_value}
 use Rattle.ja_base.specs.Valuation.{IsBad, IsValuation, MeetsConstraints, AssumptionsHold, latch_row, input_row, next_state}
 use Rattle.aig_model.specs.declared.netlist.Latch.{Latch}
@@ -21,7 +20,7 @@ use Rattle.ja_project.proofs.BelowLemmas.{lit_is_below, negated_is_below}
 use Rattle.ja_project.proofs.HeldLemmas.{held_means_assumptions, held_is_below}
 use Rattle.ja_project.proofs.ValueLemmas.{obliged, later_false}
 use Rattle.ic3_general.specs.Cubes.{IsOutside}
-use Rattle.ic3_general.specs.Chains.{AllLead, Leads}
+use Rattle.ic3_general.specs.Chains.{AllLead}
 use Rattle.ic3_general.specs.Lifting.{MakesSure}
 use Rattle.ic3_general.proofs.ChainLemmas.{leads_back, leads_last}
 

@@ -1,6 +1,7 @@
 //! Cubes of latch rows from which a failure is reached. A cube is kept as the clause that excludes it; input rows that lead from
 //! each of its rows to a broken property are its chain (`specs/Chains`). A cube that no initial row is excluded from is a
-//! failure.
+//! failure. Lifting leaves literals out of a cube that leads on (`specs/Lifting`), shrinking out of the clause of one that is
+//! blocked (`specs/Shrinking`).
 #![tactic(auto)]
 
 mod cutting;

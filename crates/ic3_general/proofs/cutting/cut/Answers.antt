@@ -1,10 +1,8 @@
-use Rattle.std.proofs.Common.{◌≡◌, ◌+◌, ℕ, List, true, false, [], ◌∷◌, ◌++◌, sym, ap, ◌∙◌, subst}
-use Rattle.std.specs.Prelude.{filter}
+use Rattle.std.proofs.Common.{◌≡◌, ◌+◌, ℕ, List, true, [], ◌∷◌, ◌++◌, sym, ap, ◌∙◌, subst}
 use Rattle.ja_base.specs.Clauses.{IsBelow, IsSetOf}
 use Rattle.aig_model.specs.Netlist.{Netlist, circuit}
 use Rattle.ja_project.specs.Start.{agrees_with_reset, starts}
 use Rattle.ja_project.proofs.ForeignLemmas.{own_is_below}
-use Rattle.ic3_general.specs.Shrinking.{is_rested_on}
 use Rattle.ic3_general.proofs.CutLemmas.{cut_by_core, cut_with_start, own_of_part, rested_among}
 use Rattle.ic3_general.proofs.cutting.cut.Goals as goal
 

@@ -1,12 +1,5 @@
-use Rattle.std.proofs.Common.{◌≡◌, ◌+◌, ◌<◌, ℕ, List, true, false, length, get_or, take, refl, sym, ap, ap₂, ◌∙◌, subst, arith, ◌||◌}
-use Rattle.std.specs.Prelude.{Contains}
-use Rattle.std.proofs.lemmas.Bool.{both_ways, or_from}
-use Rattle.std.proofs.lemmas.List.{take_all}
-use Rattle.std.proofs.lemmas.List.Elements.{Contains-get_or}
-use Rattle.std.proofs.lemmas.List.Folds.{list_any_more}
+use Rattle.std.proofs.Common.{◌≡◌, ◌+◌, ◌<◌, ℕ, List, length, get_or, sym, ap, ◌∙◌, subst, arith}
 use Rattle.ja_base.specs.Literals.{variable}
-use Rattle.aig_model.specs.Netlist.{circuit}
-use Rattle.ja_project.specs.Start.{agrees_with_reset, starts}
 use Rattle.ic3_general.proofs.cutting.starting_literal.Goals as goal
 
 pub literal_starts-requires : goal.literal_starts-requires

@@ -1,4 +1,4 @@
-use Rattle.std.proofs.Common.{ℕ, List, Bool, ◌≡◌, ◌+◌, ◌<◌, true, false, set, sym, ap, ◌∙◌, subst}
+use Rattle.std.proofs.Common.{ℕ, ◌≡◌, true, false, set, sym, ap, ◌∙◌, subst}
 use Rattle.ja_base.specs.Literals.{negated}
 use Rattle.aig_model.specs.Netlist.{circuit}
 use Rattle.aig_eval.proofs.OrderLemmas.{sound_is_acyclic}

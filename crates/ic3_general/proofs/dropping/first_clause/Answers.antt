@@ -1,4 +1,4 @@
-use Rattle.std.proofs.Common.{ℕ, List, sym, ◌∙◌}
+use Rattle.std.proofs.Common.{sym, ◌∙◌}
 use Rattle.aig_model.specs.Netlist.{circuit}
 use Rattle.aig_eval.proofs.OrderLemmas.{sound_is_acyclic}
 use Rattle.ic3_general.proofs.CubeLemmas.{cube_is_own}

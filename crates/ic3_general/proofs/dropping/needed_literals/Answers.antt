@@ -1,4 +1,4 @@
-use Rattle.std.proofs.Common.{ℕ, List, Bool, ◌≡◌, ◌+◌, ◌∷◌, ◌<◌, true, suc, length, get_or, drop, add-one, sym, ap, ◌∙◌, subst, arith}
+use Rattle.std.proofs.Common.{ℕ, List, ◌≡◌, ◌+◌, ◌∷◌, ◌<◌, true, suc, length, get_or, drop, add-one, sym, ap, ◌∙◌, subst, arith}
 use Rattle.std.proofs.Math.Seq.{drop-cons}
 use Rattle.ja_base.specs.Literals.{variable}
 use Rattle.aig_model.specs.Netlist.{circuit}

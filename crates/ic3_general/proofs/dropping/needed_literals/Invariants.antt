@@ -1,4 +1,4 @@
-use Rattle.std.proofs.Common.{◌≡◌, ◌+◌, ◌*◌, length, drop}
+use Rattle.std.proofs.Common.{drop}
 use Rattle.aig_model.specs.Netlist.{circuit}
 use Rattle.ic3_general.specs.Dropping.{IsLifting}
 use Rattle.ic3_general.proofs.dropping.needed_literals.Given as goal

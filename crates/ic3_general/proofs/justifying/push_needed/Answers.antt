@@ -1,4 +1,4 @@
-use Rattle.std.proofs.Common.{List, ℕ, [], ◌∷◌, ◌++◌, sym, ap, ◌∙◌, subst}
+use Rattle.std.proofs.Common.{[], ◌∷◌, ◌++◌, sym, ap, ◌∙◌, subst}
 use Rattle.ic3_general.specs.Dropping.{IsAmongUnmet}
 use Rattle.ic3_general.proofs.CubeLemmas.{among_pushed}
 use Rattle.ic3_general.proofs.justifying.push_needed.Goals as goal

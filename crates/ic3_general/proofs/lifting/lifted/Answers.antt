@@ -1,12 +1,11 @@
-use Rattle.std.proofs.Common.{◌≡◌, ◌+◌, ◌<◌, ℕ, Bool, List, true, false, ◌∷◌, ◌++◌, sym, ap, ◌∙◌, subst}
+use Rattle.std.proofs.Common.{◌≡◌, ◌+◌, ℕ, Bool, List, true, false, ◌∷◌, sym, ap, ◌∙◌, subst}
 use Rattle.std.specs.Prelude.{All}
-use Rattle.ja_base.specs.Literals.{variable, value}
+use Rattle.ja_base.specs.Literals.{value}
 use Rattle.ja_base.specs.Clauses.{IsBelow}
 use Rattle.ja_base.specs.Valuation.{IsValuation, latch_row, input_row}
 use Rattle.aig_model.specs.Netlist.{Netlist, circuit}
 use Rattle.aig_model.specs.Task.{VerificationTask, problem}
 use Rattle.ja_project.specs.Latches.{is_foreign}
-use Rattle.ja_project.specs.CodedClauses.{held_literals, negated_next}
 use Rattle.ic3_general.specs.Chains.{AllLead}
 use Rattle.ic3_general.specs.Cubes.{IsOutside}
 use Rattle.ic3_general.specs.Lifting.{MakesSure}

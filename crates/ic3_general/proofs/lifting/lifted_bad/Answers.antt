@@ -1,7 +1,7 @@
-use Rattle.std.proofs.Common.{◌≡◌, ◌+◌, ◌<◌, ℕ, Bool, List, true, false, [], ◌∷◌, sym, ap, ◌∙◌, subst}
+use Rattle.std.proofs.Common.{◌≡◌, ◌+◌, ℕ, Bool, List, true, false, [], ◌∷◌, sym, ap, ◌∙◌, subst}
 use Rattle.std.specs.Prelude.{All}
 use Rattle.std.proofs.lemmas.List.Elements.{All-cons}
-use Rattle.ja_base.specs.Literals.{variable, value}
+use Rattle.ja_base.specs.Literals.{value}
 use Rattle.ja_base.specs.Circuit.{bad_literal}
 use Rattle.ja_base.specs.Clauses.{IsBelow}
 use Rattle.ja_base.specs.Valuation.{IsValuation, latch_row, input_row}

@@ -1,4 +1,4 @@
-use Rattle.std.proofs.Common.{◌≡◌, ◌+◌, ℕ, List, true, false, sym, ◌∙◌, subst}
+use Rattle.std.proofs.Common.{◌≡◌, ℕ, List, true, sym, ◌∙◌, subst}
 use Rattle.aig_model.specs.Netlist.{circuit}
 use Rattle.ja_project.specs.Start.{starts}
 use Rattle.ja_project.proofs.ForeignLemmas.{own_is_below}

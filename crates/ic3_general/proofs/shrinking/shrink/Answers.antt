@@ -1,4 +1,4 @@
-use Rattle.std.proofs.Common.{◌++◌, List, ℕ, [], subst}
+use Rattle.std.proofs.Common.{subst}
 use Rattle.ja_base.specs.Circuit.{Problem}
 use Rattle.aig_model.specs.Task.{problem}
 use Rattle.ic3_query.specs.Known.{IsKnown, all_of}

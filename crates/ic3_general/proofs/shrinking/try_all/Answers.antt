@@ -1,4 +1,4 @@
-use Rattle.std.proofs.Common.{ℕ, List, ◌≡◌, ◌+◌, ◌*◌, ◌^◌, ◌≤◌, length, sym, ap, ◌∙◌, subst, arith}
+use Rattle.std.proofs.Common.{ℕ, ◌+◌, ◌*◌, ◌^◌, ◌∙◌, subst}
 use Rattle.sat_plain.specs.Ticks.{TicksAtMost}
 use Rattle.ic3_query.specs.Known.{all_of}
 use Rattle.ic3_query.proofs.MeterLemmas.{later_then, polled_then, ticks_more}
