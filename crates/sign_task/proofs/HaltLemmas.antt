@@ -25,7 +25,7 @@ use Rattle.job_plan.specs.Plans.{IsPlan}
 use Rattle.sign_task.specs.Openings.{opening_of}
 use Rattle.sign_task.specs.Replies.{is_gave_up}
 use Rattle.sign_task.specs.Underway.{SignBoard, IsUnderway, IsStopped, IsHaltedAt, IsHalted, IsMarked, AreMarked, Keeps, KeepsMarks}
-use Rattle.sign_task.proofs.JudgementLemmas.{Settles, judged_settles, keeps_itself, keeps_more}
+use Rattle.sign_task.proofs.JudgementLemmas.{judged_settles, keeps_itself, keeps_more}
 
 abbrev task_of : ClosedList → _
 task_of list = problem list.task

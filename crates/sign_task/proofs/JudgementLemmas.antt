@@ -15,14 +15,21 @@ use Rattle.store_core.specs.Steps.{State, mark_of, settled, settled_clauses}
 use Rattle.store_core.specs.Boards.{Did}
 use Rattle.store_core.specs.Judged.{settle_event}
 use Rattle.store_core.proofs.NextBoards.{mark_set, mark_stays}
+use Rattle.worker_pool.specs.Judgements.{Settles, judged_property}
 use Rattle.job_plan.specs.Plans.{IsPlan}
 use Rattle.store_core.specs.declared.journal.Opening.{Opening}
 use Rattle.sign_task.specs.Openings.{opening_of}
 use Rattle.sign_task.specs.declared.terms.Terms.{Terms}
 use Rattle.sign_task.specs.Underway.{SignBoard, IsUnderway, IsMarked, Keeps}
 
+pub judged_within : (t : VerificationTask) (p : ℕ) (limit : Option ℕ) (j : Judged ClosedList FoundFailure) → Settles t p limit j
+    → p < length t.design.bads → judged_property j p < length t.design.bads
+judged_within t p limit (Proved list) h within = within
+judged_within t p limit (Fails f) h within = h.1
+judged_within t p limit (Spent n) h within = within
+
 -- what a settled property changes of the state
-pub record Settles (p : ℕ) (s next : State) : Type 0 where
+pub record Settled (p : ℕ) (s next : State) : Type 0 where
   pub place : next.place ≡ s.place
   pub cancel : next.cancel ≡ s.cancel
   pub width : length next.marks ≡ length s.marks
@@ -35,7 +42,7 @@ some_is (Some x) h = (x, refl)
 some_is None h = absurd (false≢true h)
 
 settles : (p : ℕ) (s : State) (m : Mark) (added : List (List ℕ)) (had : Option Mark) → had ≡ mark_of s.marks p
-    → p < length s.marks → Settles p s (settled had s p m added)
+    → p < length s.marks → Settled p s (settled had s p m added)
 settles p s m added (Some had) is within = record {
   place = refl;
   cancel = refl;
@@ -54,14 +61,14 @@ settles p s m added None is within = record {
 }
 
 settle_changes : (p : ℕ) (before after : SignBoard) (m : Mark) (added : List (List ℕ)) → p < length before.state.marks
-    → Did (λ (l : ClosedList). problem l.task) before after 0 (Settle p m added) → Settles p before.state after.state
-settle_changes p before after m added within did = subst (Settles p before.state) (sym did.state_is)
+    → Did (λ (l : ClosedList). problem l.task) before after 0 (Settle p m added) → Settled p before.state after.state
+settle_changes p before after m added within did = subst (Settled p before.state) (sym did.state_is)
     (settles p before.state m (settled_clauses (mark_of before.state.marks p) m before.state.clauses added)
     (mark_of before.state.marks p) refl within)
 
 pub judged_settles : (p : ℕ) (before after : SignBoard) (j : Judged ClosedList FoundFailure) → p < length before.state.marks
     → Did (λ (l : ClosedList). problem l.task) before after 0 (settle_event (λ (l : ClosedList). l.clauses) p j)
-    → Settles p before.state after.state
+    → Settled p before.state after.state
 judged_settles p before after (Proved list) within did = settle_changes p before after mark.Proved list.clauses within did
 judged_settles p before after (Fails f) within did = settle_changes p before after mark.Fails [] within did
 judged_settles p before after (Spent n) within did = settle_changes p before after (mark.Budget n) [] within did

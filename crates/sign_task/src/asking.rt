@@ -1,8 +1,7 @@
 //! What becomes of a question to the engine of the calling thread.
 
-ghost use Rattle.std.specs.Prelude.{◌≡◌, ◌<◌, ◌⊎◌, true, length, slice_set, IfOk, OnOk};
-ghost use Rattle.store_core.specs.Judged.{IfFails};
-ghost use Rattle.worker_pool.specs.Judgements.{IsEngine, IsJudgement, unset};
+ghost use Rattle.std.specs.Prelude.{◌≡◌, ◌<◌, ◌⊎◌, length, IfOk, OnOk};
+ghost use Rattle.worker_pool.specs.Judgements.{IsEngine, Settles, judged_property, unset};
 ghost use Rattle.sign_task.specs.Underway.{IsUnderway, IsHalted, IsMarked, Keeps};
 
 use crate::halting::halt;
@@ -27,10 +26,9 @@ fn ask_on<S: Probe, L: Sat>(
     requires within { prop < length coded.now.design.bads }
     requires engine { IsEngine S.count S.added coded.now engine.old }
     ensures engine { IsEngine S.count S.added coded.now engine.new }
-    ensures judged { IfOk result
-        (IsJudgement coded.now prop engine.old.failed meter.old.limit) }
-    ensures seen { IfOk result (λ judged. IfFails judged
-        (λ f. engine.new.failed ≡ slice_set engine.old.failed f.prop true)) }
+    ensures judged { IfOk result (Settles coded.now prop meter.old.limit) }
+    ensures falls { IfOk result (λ judged. (judged_property judged prop ≡ prop)
+        ⊎ (unset engine.new.failed < unset engine.old.failed)) }
     ensures limit { meter.new.limit ≡ meter.old.limit }
 {
     match ask::<S, L, NoFlag>(alloc, coded, prop, engine, meter, &mut NoFlag)? {

@@ -20,7 +20,7 @@ use std::thread::Threads;
 
 /// From 1 to 8 workers decide the properties, each on one engine, and pass the gate; what they leave open is given up or decided by
 /// the calling thread. The searches ask an `S`, and an `L` logs the proofs.
-pub fn sign<S: Probe, L: Sat, G: Gate + Sync, R: Threads + Wait + Sync>(
+pub fn sign<S: Probe + Send, L: Sat + Send, G: Gate + Sync, R: Threads + Wait + Sync>(
     rt: &R,
     alloc: Global,
     task: &Task,

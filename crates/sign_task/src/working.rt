@@ -22,7 +22,7 @@ use store_core::Naming;
 use worker_pool::work_all;
 
 /// `N` names the board's opening and its task.
-fn worked<S: Probe, L: Sat, G: Gate + Sync, N: Naming, R: Threads + Wait + Sync>(
+fn worked<S: Probe + Send, L: Sat + Send, G: Gate + Sync, N: Naming, R: Threads + Wait + Sync>(
     rt: &R,
     alloc: Global,
     board: SignBoard,
@@ -57,7 +57,7 @@ fn worked<S: Probe, L: Sat, G: Gate + Sync, N: Naming, R: Threads + Wait + Sync>
 }
 
 /// So many workers decide what the plan of the board gives them. Which properties have a mark then is not said.
-pub(crate) fn work<S: Probe, L: Sat, G: Gate + Sync, R: Threads + Wait + Sync>(
+pub(crate) fn work<S: Probe + Send, L: Sat + Send, G: Gate + Sync, R: Threads + Wait + Sync>(
     rt: &R,
     alloc: Global,
     board: SignBoard,

@@ -1,5 +1,5 @@
 -- What a judgement settles, and that a failure of another property is seen once.
-use Rattle.std.proofs.Common.{◌≡◌, ℕ, zero, suc, ◌<◌, ◌⊎◌, inl, inr, ⊎_elim, Bool, true, false, Option, List, [], ◌∷◌, length, refl, sym, subst, ◌∙◌, arith}
+use Rattle.std.proofs.Common.{◌≡◌, ℕ, zero, suc, ◌<◌, ◌⊎◌, inl, inr, ⊎_elim, Bool, true, false, Option, Some, List, [], ◌∷◌, length, refl, sym, ap, subst, ◌∙◌, arith}
 use Rattle.std.specs.Prelude.{slice_set}
 use Rattle.std.proofs.lemmas.Bool.{cases_lt, false≢true}
 use Rattle.std.proofs.lemmas.List.{get_or_past}
@@ -12,30 +12,23 @@ use Rattle.inv_cert.specs.Closed.{ClosedList}
 use Rattle.local_stim.specs.Found.{FoundFailure}
 use Rattle.store_core.specs.declared.answers.Judged.{Judged}
 use Rattle.store_core.specs.declared.answers.Judged.TheVariants.{Proved, Fails, Spent}
-use Rattle.store_core.specs.Judged.{IfFails, IfProved}
-use Rattle.ic3_engine.specs.Found.{IsUnseen}
-use Rattle.worker_pool.specs.Judgements.{IsJudgement, judged_property, unset}
+use Rattle.store_core.specs.Judged.{IfFails, IfProved, IfSpent}
+use Rattle.ic3_engine.specs.Found.{IsFailureSeen, IsUnseen}
+use Rattle.worker_pool.specs.Judgements.{Settles, judged_property, unset}
 
 assumed_within : (t : VerificationTask) (p : ℕ) → length t.expected ≡ length t.design.bads → bit t.expected p ≡ true
     → p < length t.design.bads
 assumed_within t p long held = ⊎_elim (λ lt. omega (arith, lt, long))
     (λ past. absurd (false≢true (sym (get_or_past t.expected p false past) ∙ held))) (cases_lt p (length t.expected))
 
-pub judged_within : (t : VerificationTask) (p : ℕ) (failed : List Bool) (limit : Option ℕ) (j : Judged ClosedList FoundFailure)
-    → IsJudgement t p failed limit j → length t.expected ≡ length t.design.bads → p < length t.design.bads
-    → judged_property j p < length t.design.bads
-judged_within t p failed limit (Proved list) h long within = within
-judged_within t p failed limit (Spent n) h long within = within
-judged_within t p failed limit (Fails f) h long within =
-    ⊎_elim (λ (e : f.prop ≡ p). omega (arith, e, within))
-    (λ (u : IsUnseen t failed f.prop). assumed_within t f.prop long u.assumed) h.prop
-
-pub proof_settles : (t : VerificationTask) (p : ℕ) (failed : List Bool) (limit : Option ℕ) (task : Problem)
-    (j : Judged ClosedList FoundFailure) → IsJudgement t p failed limit j → problem t ≡ task
-    → IfProved j (λ list. (problem list.task ≡ task) × Covers (circuit list.task.design) list.clauses (judged_property j p))
-proof_settles t p failed limit task (Proved list) h is = (h.task ∙ is, h.covers)
-proof_settles t p failed limit task (Fails f) h is = tt
-proof_settles t p failed limit task (Spent n) h is = tt
+-- a failure that was not seen before may be settled
+pub failure_settles : (t : VerificationTask) (p : ℕ) (failed : List Bool) (f : FoundFailure) → IsFailureSeen t p failed f
+    → length t.expected ≡ length t.design.bads → p < length t.design.bads → (f.task ≡ t) × (f.prop < length t.design.bads)
+failure_settles t p failed f h long within = (
+  h.task,
+  ⊎_elim (λ (e : f.prop ≡ p). omega (arith, e, within))
+      (λ (u : IsUnseen t failed f.prop). assumed_within t f.prop long u.assumed) h.prop,
+)
 
 -- a bit more is set
 unset_falls : (bs : List Bool) (at : ℕ) → at < length bs → bit bs at ≡ false → unset (slice_set bs at true) < unset bs
@@ -45,14 +38,37 @@ unset_falls (false ∷ bs) zero within free = omega arith
 unset_falls (true ∷ bs) (suc at) within free = unset_falls bs at (omega (arith, within)) free
 unset_falls (false ∷ bs) (suc at) within free = let h = unset_falls bs at (omega (arith, within)) free in omega (arith, h)
 
-pub other_falls : (t : VerificationTask) (p : ℕ) (failed now : List Bool) (limit : Option ℕ) (j : Judged ClosedList FoundFailure)
-    → IsJudgement t p failed limit j → IfFails j (λ f. now ≡ slice_set failed f.prop true)
-    → length failed ≡ length t.design.bads → length t.expected ≡ length t.design.bads
-    → (judged_property j p ≡ p) ⊎ (unset now < unset failed)
-other_falls t p failed now limit (Proved list) h seen wide long = inl refl
-other_falls t p failed now limit (Spent n) h seen wide long = inl refl
-other_falls t p failed now limit (Fails f) h seen wide long = ⊎_elim (λ (e : f.prop ≡ p). inl e)
+pub failure_falls : (t : VerificationTask) (p : ℕ) (failed now : List Bool) (f : FoundFailure) → IsFailureSeen t p failed f
+    → now ≡ slice_set failed f.prop true → length failed ≡ length t.design.bads → length t.expected ≡ length t.design.bads
+    → (f.prop ≡ p) ⊎ (unset now < unset failed)
+failure_falls t p failed now f h seen wide long = ⊎_elim (λ (e : f.prop ≡ p). inl e)
     (λ (u : IsUnseen t failed f.prop).
     inr (subst (λ (bs : List Bool). unset bs < unset failed) (sym seen)
     (unset_falls failed f.prop (omega (arith, wide, assumed_within t f.prop long u.assumed)) u.unseen)))
     h.prop
+
+pub failure_within : (t : VerificationTask) (p : ℕ) (limit : Option ℕ) (j : Judged ClosedList FoundFailure)
+    → Settles t p limit j → IfFails j (λ f. f.prop < length t.design.bads)
+failure_within t p limit (Proved list) h = tt
+failure_within t p limit (Fails f) h = h.1
+failure_within t p limit (Spent n) h = tt
+
+pub settled_proof : (t : VerificationTask) (p : ℕ) (limit : Option ℕ) (task : Problem) (j : Judged ClosedList FoundFailure)
+    → Settles t p limit j → problem t ≡ task
+    → IfProved j (λ list. (problem list.task ≡ task) × Covers (circuit list.task.design) list.clauses (judged_property j p))
+settled_proof t p limit task (Proved list) h is = (h.task ∙ is, h.covers)
+settled_proof t p limit task (Fails f) h is = tt
+settled_proof t p limit task (Spent n) h is = tt
+
+pub settled_failure : (t : VerificationTask) (p : ℕ) (limit : Option ℕ) (task : Problem) (j : Judged ClosedList FoundFailure)
+    → Settles t p limit j → problem t ≡ task
+    → IfFails j (λ f. (problem f.task ≡ task) × (f.prop ≡ judged_property j p))
+settled_failure t p limit task (Proved list) h is = tt
+settled_failure t p limit task (Fails f) h is = (ap problem h.0 ∙ is, refl)
+settled_failure t p limit task (Spent n) h is = tt
+
+pub settled_budget : (t : VerificationTask) (p : ℕ) (limit : Option ℕ) (j : Judged ClosedList FoundFailure)
+    → Settles t p limit j → IfSpent j (λ n. limit ≡ Some n)
+settled_budget t p limit (Proved list) h = tt
+settled_budget t p limit (Fails f) h = tt
+settled_budget t p limit (Spent n) h = h

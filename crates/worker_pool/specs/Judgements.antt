@@ -1,5 +1,5 @@
 -- An engine between two questions, and what it answers as a judgement.
-use Rattle.std.specs.Prelude.{◌≡◌, ℕ, ◌+◌, Bool, Option, Some, List, [], ◌∷◌, if◌then◌else◌}
+use Rattle.std.specs.Prelude.{◌≡◌, ℕ, ◌+◌, ◌<◌, Bool, Option, Some, List, [], ◌∷◌, length, if◌then◌else◌}
 use Rattle.ja_base.specs.Invariants.{Covers}
 use Rattle.aig_model.specs.Netlist.{circuit}
 use Rattle.aig_model.specs.Task.{VerificationTask, problem}
@@ -10,7 +10,6 @@ use Rattle.store_core.specs.declared.answers.Judged.TheVariants.{Proved, Fails, 
 use Rattle.ic3_query.specs.Questions.{IsRoom}
 use Rattle.ic3_engine.specs.declared.engine.Engine.{Engine}
 use Rattle.ic3_engine.specs.Engines.{IsReady}
-use Rattle.ic3_engine.specs.Found.{IsFailureSeen}
 use Rattle.ic3_engine.specs.Turns.{state}
 
 -- The engine is ready for a property of the task; `count` and `added` tell the variables and the clauses of its solver.
@@ -27,12 +26,11 @@ pub record IsProof (t : VerificationTask) (p : ℕ) (list : ClosedList) : Type 0
   pub task : problem list.task ≡ problem t
   pub covers : Covers (circuit list.task.design) list.clauses p
 
--- a proof of the property, a failure of it or of another one that was not seen before, or the limit that was spent
-abbrev pub IsJudgement : VerificationTask → ℕ → List Bool → Option ℕ
-    → Judged ClosedList FoundFailure → Type 0
-IsJudgement t p failed limit (Proved list) = IsProof t p list
-IsJudgement t p failed limit (Fails failure) = IsFailureSeen t p failed failure
-IsJudgement t p failed limit (Spent units) = limit ≡ Some units
+-- What may be settled where this property was asked for: a proof of it, a failure of some property, or the limit that was spent.
+abbrev pub Settles : VerificationTask → ℕ → Option ℕ → Judged ClosedList FoundFailure → Type 0
+Settles t p limit (Proved list) = IsProof t p list
+Settles t p limit (Fails failure) = (failure.task ≡ t) × (failure.prop < length t.design.bads)
+Settles t p limit (Spent units) = limit ≡ Some units
 
 -- the property that a judgement is of, where this one was asked for
 abbrev pub judged_property : Judged ClosedList FoundFailure → ℕ → ℕ

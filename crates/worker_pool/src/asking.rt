@@ -1,10 +1,9 @@
 //! One question to an engine, and its answer as a judgement.
 
-ghost use Rattle.std.specs.Prelude.{◌≡◌, ◌<◌, true, Some, None, length, slice_set, IfOk, IfSome};
+ghost use Rattle.std.specs.Prelude.{◌≡◌, ◌<◌, ◌⊎◌, Some, None, length, IfOk, IfSome};
 ghost use Rattle.ja_outside.specs.Flags.{IsPolled, IsFoundRaised};
 ghost use Rattle.store_core.specs.declared.answers.Judged.TheVariants as judged;
-ghost use Rattle.store_core.specs.Judged.{IfFails};
-ghost use Rattle.worker_pool.specs.Judgements.{IsEngine, IsJudgement, judged_property};
+ghost use Rattle.worker_pool.specs.Judgements.{IsEngine, Settles, judged_property, unset};
 
 use ic3_engine::{Engine, Found, prove};
 use ic3_query::Halt;
@@ -31,8 +30,7 @@ fn spent(meter: &Meter) -> Judgement
     Judged::Spent(note)
 }
 
-/// A proof of the property, a failure of it or of another one that was not seen to fail before, or that the meter's limit was
-/// spent. None where the flag stopped it.
+/// None where the flag stopped it. Each failure of another property than the one asked for is told once.
 pub fn ask<S: Probe, L: Sat, F: Flag>(
     alloc: Global,
     coded: &Coded,
@@ -45,14 +43,16 @@ pub fn ask<S: Probe, L: Sat, F: Flag>(
     requires engine { IsEngine S.count S.added coded.now engine.old }
     ensures engine { IsEngine S.count S.added coded.now engine.new }
     ensures judged { IfOk result (λ answer. IfSome answer
-        (IsJudgement coded.now prop engine.old.failed meter.old.limit)) }
-    ensures seen { IfOk result (λ answer. IfSome answer (λ judged. IfFails judged
-        (λ f. engine.new.failed ≡ slice_set engine.old.failed f.prop true))) }
+        (Settles coded.now prop meter.old.limit)) }
+    ensures falls { IfOk result (λ answer. IfSome answer (λ judged.
+        (judged_property judged prop ≡ prop)
+        ⊎ (unset engine.new.failed < unset engine.old.failed))) }
     ensures limit { meter.new.limit ≡ meter.old.limit }
     ensures stopped { IfOk result (λ answer. answer ≡ None
         → IsFoundRaised F.may_rise F.raised flag.old flag.new) }
     ensures flag { IsPolled F.may_rise F.raised flag.old flag.new }
 {
+    let _task = coded.task();
     match prove::<S, L, F>(alloc, coded, prop, engine, meter, flag) {
         Ok(Found::Proved(proved)) => Ok(Some(Judged::Proved(proved.list))),
         Ok(Found::Fails(failure)) => Ok(Some(Judged::Fails(failure))),

@@ -59,7 +59,13 @@ fn join_all<N: Naming>(
 
 /// So many workers, from 1 to 8, decide what the desk gives them. The seat is that of `start`; it comes back once all that it
 /// made are joined, so that the desk can be closed. Each worker passes the gate once it has drawn and once it has answered.
-pub fn work_all<S: Probe, L: Sat, G: Gate + Sync, N: Naming, R: Threads + Wait + Sync>(
+pub fn work_all<
+    S: Probe + Send,
+    L: Sat + Send,
+    G: Gate + Sync,
+    N: Naming,
+    R: Threads + Wait + Sync,
+>(
     rt: &R,
     alloc: Global,
     desk: &Desk<Closed, LocalFailure, N>,
@@ -82,7 +88,9 @@ pub fn work_all<S: Probe, L: Sat, G: Gate + Sync, N: Naming, R: Threads + Wait +
     let seats = thread::map_vec(
         rt,
         jobs,
-        &|own| { work::<S, L, G, N, R>(rt, alloc, desk, own, coded, limit, flag, gate) },
+        &|own: OwnSeat<N>| -> Result<OwnSeat<N>, Memory>
+            requires { IsPool N.opening N.task coded.now limit flag.now.may }
+        { work::<S, L, G, N, R>(rt, alloc, desk, own, coded, limit, flag, gate) },
     )?;
     join_all(desk, &mut seat, seats)?;
     Ok(seat)

@@ -35,7 +35,7 @@ fn raise_if(flag: &CancelFlag, raised: bool) {
 }
 
 /// The list is published before the workers begin; the flag may be raised then.
-fn worked<S: Probe, L: Sat, G: Gate + Sync, N: Naming, R: Threads + Wait + Sync>(
+fn worked<S: Probe + Send, L: Sat + Send, G: Gate + Sync, N: Naming, R: Threads + Wait + Sync>(
     rt: &R,
     alloc: Global,
     board: SignBoard,
@@ -65,7 +65,7 @@ fn worked<S: Probe, L: Sat, G: Gate + Sync, N: Naming, R: Threads + Wait + Sync>
 }
 
 /// What a board leaves, where so many workers decide it.
-fn left_by<S: Probe, L: Sat, G: Gate + Sync, R: Threads + Wait + Sync>(
+fn left_by<S: Probe + Send, L: Sat + Send, G: Gate + Sync, R: Threads + Wait + Sync>(
     rt: &R,
     alloc: Global,
     board: SignBoard,

@@ -7,7 +7,7 @@ abbrev pub invariant-loop-done : goal.invariant-loop-done
 invariant-loop-done g l = record {
   engine : IsEngine g.S.Sat.count g.S.Sat.added l.coded l.engine;
   seat : IsLater l.fn.seat l.seat;
-  limit : l.meter.limit ≡ l.limit;
+  limit : l.meter.limit ≡ l.fn.limit;
 }
 
 abbrev pub decreases-loop-done : goal.decreases-loop-done
