@@ -1,4 +1,4 @@
-use Rattle.std.proofs.Common.{◌≡◌, ℕ, List, true, sym, ◌∙◌, subst}
+use Rattle.std.proofs.Common.{◌≡◌, ℕ, List, true, sym, subst}
 use Rattle.aig_model.specs.Netlist.{circuit}
 use Rattle.ja_project.specs.Start.{starts}
 use Rattle.ja_project.proofs.ForeignLemmas.{own_is_below}
@@ -21,7 +21,7 @@ returns-clause-part c =
     let tried : List ℕ = c.in_ok-tried.tried in
     let among : AreAmong tried left = subst (λ (ls : List ℕ). AreAmong ls left) (sym c.in_ok-tried.ensures)
     (without_is_among c.args.lit left) in
-    let begins : starts (circuit n) tried ≡ true = sym c.starts-begins.ensures ∙ c.if-not-begins.false in
+    let begins : starts (circuit n) tried ≡ true = cc in
     record {
       within = part_from_members tried left among;
       own = own_of_part (circuit n) tried left among c.requires.own;
