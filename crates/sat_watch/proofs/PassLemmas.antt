@@ -1,8 +1,8 @@
 -- How far propagation has come behind a pass.
-use Rattle.std.proofs.Common.{◌≡◌, ℕ, ◌+◌, ◌<◌, ◌≤◌, ◌⊎◌, Bool, true, false, List, ◌++◌, length, take, drop, Some, slice_get, inl, inr, refl, sym, subst, ◌∙◌, ap, arith}
+use Rattle.std.proofs.Common.{◌≡◌, ℕ, ◌+◌, ◌<◌, ◌≤◌, ◌⊎◌, Bool, true, false, List, length, take, drop, Some, slice_get, inl, inr, refl, sym, subst, ◌∙◌, ap, arith}
 use Rattle.std.specs.List.{Contains}
 use Rattle.std.proofs.lemmas.Bool.{both_ways}
-use Rattle.std.proofs.lemmas.List.{length-append, take_at, take-append-le, take_all}
+use Rattle.std.proofs.lemmas.List.{take_at, take-append-le, take_all}
 use Rattle.ja_base.specs.Trails.{IsTrail}
 use Rattle.ja_base.specs.Literals.{negated}
 use Rattle.sat_plain.proofs.Members.{taken_is_on}
@@ -12,7 +12,7 @@ use Rattle.sat_plain.specs.Trails.{lits_of}
 use Rattle.sat_watch.specs.declared.front.Front.{Front}
 use Rattle.sat_watch.specs.Stores.{Stored, IsThere}
 use Rattle.sat_watch.specs.Steps.{IsForcedOn, IsStill}
-use Rattle.sat_watch.specs.Watching.{Watching, slots_at, IsPaired, Keeps}
+use Rattle.sat_watch.specs.Watching.{Watching, slots_at, IsPaired}
 use Rattle.sat_watch.specs.Visits.{IsBased, IsTrueUnder, IsSafe, AreSwept}
 use Rattle.sat_watch.specs.Fronts.{IsMark, IsReady, IsTended}
 use Rattle.sat_watch.proofs.MemberLemmas.{is_in}
@@ -20,7 +20,7 @@ use Rattle.sat_watch.proofs.FrontLemmas.{front_known, lits_more, longer_of}
 use Rattle.sat_watch.proofs.SafeLemmas.{safe_less, safe_still}
 use Rattle.sat_watch.proofs.StillLemmas.{still_values}
 use Rattle.sat_watch.proofs.SweepLemmas.{narrows_next, past_end}
-use Rattle.sat_watch.proofs.TendLemmas.{tended_front, tended_grown}
+use Rattle.sat_watch.proofs.TendLemmas.{tended_front}
 
 -- the first places are as they were
 same_first : (before after : List Place) (n : ℕ) → IsForcedOn before after → n ≤ length before

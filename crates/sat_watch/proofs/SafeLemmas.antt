@@ -1,17 +1,17 @@
 -- What keeps clauses safe.
-use Rattle.std.proofs.Common.{◌≡◌, ◌≢◌, ℕ, ◌+◌, ◌≤◌, ◌⊎◌, Bool, true, false, List, [], ◌∷◌, ◌++◌, length, get_or, set, take, drop, Some, slice_get, inl, inr, refl, sym, subst, ◌∙◌, ap, arith}
+use Rattle.std.proofs.Common.{◌≡◌, ◌≢◌, ℕ, ◌⊎◌, Bool, List, [], Some, slice_get, inl, inr, refl, sym, subst, ◌∙◌, ap, arith}
 use Rattle.std.specs.List.{Contains}
 use Rattle.std.proofs.lemmas.Bool.{both_ways}
 use Rattle.std.proofs.lemmas.Bool.Decides.{eqb_tells}
 use Rattle.std.proofs.lemmas.Option.{same_Some}
 use Rattle.ja_base.specs.Literals.{bit, negated}
 use Rattle.ja_base.specs.Trails.{IsTrail}
-use Rattle.sat_plain.proofs.Members.{Contains-cases, Contains-none}
+use Rattle.sat_plain.proofs.Members.{Contains-none}
 use Rattle.sat_plain.proofs.FinishLemmas.{one_sign}
 use Rattle.sat_watch.specs.declared.pair.Pair.{Pair}
 use Rattle.sat_watch.specs.Stores.{Stored, IsThere}
 use Rattle.sat_watch.specs.Watching.{Watching, slots_at, IsKeptBut, IsPassed, IsPaired, IsWatchedBut, IsWatched, IsOther, Keeps}
-use Rattle.sat_watch.specs.Visits.{IsBased, IsTrueUnder, IsSafe, Moves, Narrows, AreSwept, IsOpenPair}
+use Rattle.sat_watch.specs.Visits.{IsBased, IsTrueUnder, IsSafe, Moves, IsOpenPair}
 use Rattle.sat_watch.specs.Fronts.{IsStillUnder}
 use Rattle.sat_watch.proofs.StillLemmas.{still_forced, open_has_two}
 

@@ -1,6 +1,5 @@
 -- What a scan tells of a clause, and what a pass keeps.
-use Rattle.std.proofs.Common.{◌≡◌, ◌≢◌, ℕ, ◌+◌, ◌<◌, ◌≤◌, Bool, true, false, cond, List, [], ◌∷◌, ◌++◌, length, is_none, Some, slice_get, inl, inr, refl, sym, subst, ◌∙◌, ap, arith, append_assoc, append-nil}
-use Rattle.std.proofs.lemmas.Bool.Decides.{eqb_tells}
+use Rattle.std.proofs.Common.{◌≡◌, ◌≢◌, ℕ, ◌<◌, Bool, true, false, cond, List, [], ◌∷◌, ◌++◌, is_none, Some, slice_get, refl, sym, subst, ◌∙◌, ap, append_assoc, append-nil}
 use Rattle.std.proofs.lemmas.List.Elements.{All-nil, All-append}
 use Rattle.std.specs.List.{All, Contains}
 use Rattle.std.proofs.lemmas.Option.{get_or_from_slice_get, slice_get_within}
@@ -9,11 +8,9 @@ use Rattle.ja_base.specs.Clauses.{IsBelow}
 use Rattle.ja_base.specs.Trails.{open_lits}
 use Rattle.refute_check.specs.Lines.{found_of}
 use Rattle.refute_check.specs.declared.found.Found.{Found}
-use Rattle.refute_check.specs.declared.found.Found.TheVariants.{False, Forces, Other}
+use Rattle.refute_check.specs.declared.found.Found.TheVariants.{Forces, Other}
 use Rattle.sat_plain.specs.declared.place.Place.{Place}
-use Rattle.sat_plain.specs.Trails.{Assigned}
-use Rattle.sat_watch.specs.Stores.{Stored, IsHeld, IsThere, over}
-use Rattle.sat_watch.specs.Steps.{IsStill, IsForcedOn, IsVisited}
+use Rattle.sat_watch.specs.Steps.{IsStill, IsForcedOn}
 
 -- what a scan found over the values and literals that were read is what is found of the clause
 pub scanned : (values row : List Bool) (clause lits : List ℕ) (found : Found) → found ≡ found_of row (open_lits row lits)

@@ -1,10 +1,8 @@
 -- Clauses that stay still as literals come.
-use Rattle.std.proofs.Common.{◌≡◌, ◌≢◌, ℕ, ◌+◌, ◌<◌, ◌≤◌, ◌-◌, ◌⊎◌, Bool, true, false, not, cond, List, [], ◌∷◌, ◌++◌, length, get_or, take, drop, Some, slice_get, inl, inr, refl, sym, subst, ◌∙◌, ap, arith}
+use Rattle.std.proofs.Common.{◌≡◌, ◌≢◌, ℕ, ◌+◌, ◌<◌, ◌≤◌, ◌-◌, ◌⊎◌, Bool, true, false, not, cond, List, [], ◌∷◌, ◌++◌, length, get_or, take, drop, Some, inl, inr, refl, sym, subst, ◌∙◌, ap, arith}
 use Rattle.std.specs.List.{Contains}
-use Rattle.std.proofs.Math.Seq.{take-length}
 use Rattle.std.proofs.lemmas.Bool.{both_ways, cases_lt, false_from_ne_true}
 use Rattle.std.proofs.lemmas.List.{take_at, length-append, length-drop, get_or-drop, get_or_append_left}
-use Rattle.std.proofs.lemmas.List.Elements.{Contains-append_left, Contains-append_right, Contains-append_cases}
 use Rattle.std.proofs.lemmas.Option.{slice_get-get_or}
 use Rattle.ja_base.specs.Literals.{bit, negated}
 use Rattle.ja_base.specs.Clauses.{has_literal}
@@ -13,7 +11,7 @@ use Rattle.ja_base.specs.Trails.{open_lits, IsTrail}
 use Rattle.sat_plain.proofs.Members.{taken_at, dropped_at, taken_is_on, Contains-here, Contains-there, Contains-cases, Contains-none}
 use Rattle.sat_plain.proofs.WalkLemmas.{taken_has}
 use Rattle.sat_watch.specs.Steps.{IsStill}
-use Rattle.sat_watch.specs.Fronts.{open_under, IsStillUnder, IsLate, IsFine}
+use Rattle.sat_watch.specs.Fronts.{open_under, IsStillUnder, IsFine}
 
 -- ---- members
 

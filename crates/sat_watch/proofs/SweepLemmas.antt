@@ -1,16 +1,16 @@
 -- What a pass over the clauses that one literal watches has come to.
-use Rattle.std.proofs.Common.{◌≡◌, ◌≢◌, ℕ, ◌+◌, ◌<◌, ◌≤◌, ◌⊎◌, Bool, true, false, List, [], ◌∷◌, ◌++◌, length, take, drop, Some, slice_get, inl, inr, refl, sym, subst, ◌∙◌, ap, arith}
+use Rattle.std.proofs.Common.{◌≡◌, ◌≢◌, ℕ, ◌+◌, ◌≤◌, ◌⊎◌, Bool, true, false, List, length, take, drop, Some, slice_get, inl, inr, sym, subst, ◌∙◌, ap, arith}
 use Rattle.std.specs.List.{Contains}
 use Rattle.std.proofs.lemmas.Bool.{both_ways}
 use Rattle.std.proofs.lemmas.Bool.Decides.{eqb_tells}
 use Rattle.std.proofs.lemmas.List.Elements.{Contains-push_cases}
 use Rattle.ja_base.specs.Literals.{bit, negated}
-use Rattle.ja_base.specs.Trails.{IsTrail, AreFalse}
+use Rattle.ja_base.specs.Trails.{IsTrail}
 use Rattle.ja_base.proofs.LiteralLemmas.{negated_twice}
 use Rattle.sat_plain.proofs.FinishLemmas.{one_sign}
 use Rattle.sat_plain.proofs.Members.{Contains-cases, drop_next, dropped_at, taken_is_on, take_next}
 use Rattle.sat_watch.specs.Stores.{Stored, IsThere}
-use Rattle.sat_watch.specs.Watching.{Watching, slots_at, IsPaired, IsWatchedBut, IsWatched, IsOther, Keeps}
+use Rattle.sat_watch.specs.Watching.{Watching, slots_at, IsPaired, IsOther, Keeps}
 use Rattle.sat_watch.specs.Visits.{IsBased, IsTrueUnder, IsSafe, Moves, Narrows, AreSwept}
 use Rattle.sat_watch.proofs.SafeLemmas.{true_more, safe_more, safe_but, other_in}
 

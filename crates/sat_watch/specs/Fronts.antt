@@ -1,5 +1,5 @@
 -- How far propagation has come, and what is known of clauses behind it.
-use Rattle.std.specs.Prelude.{◌≡◌, ◌≢◌, ℕ, ◌+◌, ◌*◌, ◌≤◌, ◌⊎◌, Bool, false, not, List, [], ◌∷◌, length, take, drop, filter, Contains, slice_get, Some}
+use Rattle.std.specs.Prelude.{◌≡◌, ◌≢◌, ℕ, ◌+◌, ◌*◌, ◌≤◌, ◌⊎◌, false, not, List, [], ◌∷◌, length, take, drop, filter, Contains, slice_get, Some}
 use Rattle.ja_base.specs.Literals.{negated}
 use Rattle.ja_base.specs.Clauses.{has_literal}
 use Rattle.sat_watch.specs.Stores.{Stored, IsThere}

@@ -1,5 +1,5 @@
 -- What comes of a pass over clauses.
-use Rattle.std.specs.Prelude.{ℕ, ⊤}
+use Rattle.std.specs.Prelude.{⊤}
 use Rattle.sat_plain.specs.Trails.{Assigned}
 use Rattle.sat_watch.specs.Stores.{Stored, over}
 use Rattle.sat_watch.specs.Steps.{IsConflict}

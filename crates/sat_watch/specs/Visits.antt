@@ -1,10 +1,10 @@
 -- What a visit of a clause leaves, and a pass over clauses.
-use Rattle.std.specs.Prelude.{◌≡◌, ◌≢◌, ℕ, ◌+◌, ◌<◌, ◌⊎◌, ⊤, Bool, false, List, length, drop, Contains, slice_get, Some}
+use Rattle.std.specs.Prelude.{◌≡◌, ◌≢◌, ℕ, ◌+◌, ◌⊎◌, ⊤, Bool, false, List, length, drop, Contains, slice_get, Some}
 use Rattle.ja_base.specs.Literals.{bit, negated}
 use Rattle.sat_plain.specs.Trails.{Assigned, lits_of}
 use Rattle.sat_watch.specs.Stores.{Stored, IsThere, over}
 use Rattle.sat_watch.specs.Steps.{IsConflict}
-use Rattle.sat_watch.specs.Watching.{Watching, slots_at, IsKeptBut, IsPaired, IsWatchedBut, IsWatched, Keeps}
+use Rattle.sat_watch.specs.Watching.{Watching, slots_at, IsKeptBut, IsPaired, IsWatchedBut, IsWatched}
 use Rattle.sat_watch.specs.declared.pair.Pair.{Pair}
 use Rattle.sat_watch.specs.declared.visit.Visit.{Visit}
 use Rattle.sat_watch.specs.declared.visit.Visit.TheVariants.{Safe, Passed, False, Unsettled}

@@ -51,7 +51,8 @@ impl Front {
 
     /// One more variable.
     pub(crate) fn fresh(&mut self) -> Result<(), Memory>
-        ensures ok { OnOk result ((vars wider : ℕ) (store : Stored) (w : Watching) (lits : List ℕ) → wider ≤ vars + 1
+        ensures ok { OnOk result ((vars wider : ℕ) (store : Stored) (w : Watching)
+            (lits : List ℕ) → wider ≤ vars + 1
             → IsFront vars store w lits self.old → IsFront wider store w lits self.new) }
         ensures err { OnErr result ((vars : ℕ) (store : Stored) (w : Watching) (lits : List ℕ)
             → IsFront vars store w lits self.old → IsFront vars store w lits self.new) }
@@ -86,7 +87,8 @@ impl Front {
     /// No length is marked, and the log is empty.
     fn clear(&mut self)
         ensures width { length self.new.marks.items ≡ length self.old.marks.items }
-        ensures front { (vars : ℕ) (store : Stored) (w : Watching) (lits : List ℕ) → IsFront vars store w lits self.old
+        ensures front { (vars : ℕ) (store : Stored) (w : Watching) (lits : List ℕ)
+            → IsFront vars store w lits self.old
             → ((k : ℕ) (clause : List ℕ) → IsThere store k clause → IsSafe w lits lits k clause)
             → IsFront vars store w lits self.new }
     {
@@ -100,8 +102,10 @@ impl Front {
     /// Propagation ended quiet. A log that is longer than the marks is begun anew.
     pub(crate) fn settle(&mut self, len: u32)
         requires { len < length self.old.marks.items }
-        ensures { (vars : ℕ) (store : Stored) (w : Watching) (lits : List ℕ) → IsFront vars store w lits self.old
-            → len ≡ length lits → ((k : ℕ) (clause : List ℕ) → IsThere store k clause → IsSafe w lits lits k clause)
+        ensures { (vars : ℕ) (store : Stored) (w : Watching) (lits : List ℕ)
+            → IsFront vars store w lits self.old
+            → len ≡ length lits
+            → ((k : ℕ) (clause : List ℕ) → IsThere store k clause → IsSafe w lits lits k clause)
             → IsFront vars store w lits self.new }
     {
         if self.log.len() <= self.marks.len() {
@@ -114,8 +118,10 @@ impl Front {
 
     fn mark(&mut self, len: u32)
         requires { len < length self.old.marks.items }
-        ensures { (vars : ℕ) (store : Stored) (w : Watching) (lits : List ℕ) → IsFront vars store w lits self.old
-            → len ≡ length lits → ((k : ℕ) (clause : List ℕ) → IsThere store k clause → IsSafe w lits lits k clause)
+        ensures { (vars : ℕ) (store : Stored) (w : Watching) (lits : List ℕ)
+            → IsFront vars store w lits self.old
+            → len ≡ length lits
+            → ((k : ℕ) (clause : List ℕ) → IsThere store k clause → IsSafe w lits lits k clause)
             → IsFront vars store w lits self.new }
     {
         self.marks[len as usize] = Some(self.log.len());
@@ -141,7 +147,8 @@ impl Front {
         ensures width { length self.new.marks.items ≡ length self.old.marks.items }
         ensures fewer { (d n : ℕ) → slice_get self.new.marks.items d ≡ Some (Some n)
             → slice_get self.old.marks.items d ≡ Some (Some n) }
-        ensures gone { (d n : ℕ) → to < d → d ≤ len → slice_get self.new.marks.items d ≡ Some (Some n) → ⊥ }
+        ensures gone { (d n : ℕ) → to < d → d ≤ len
+            → slice_get self.new.marks.items d ≡ Some (Some n) → ⊥ }
         ensures log { self.new.log.items ≡ self.old.log.items }
         ensures head { self.new.head ≡ self.old.head }
         ensures seen { self.new.seen ≡ self.old.seen }
@@ -156,7 +163,8 @@ impl Front {
     pub(crate) fn retreat(&mut self, to: u32, len: u32)
         requires to { to ≤ len }
         requires len { len < length self.old.marks.items }
-        ensures { (vars : ℕ) (store : Stored) (w : Watching) (lits : List ℕ) → IsFront vars store w lits self.old
+        ensures { (vars : ℕ) (store : Stored) (w : Watching) (lits : List ℕ)
+            → IsFront vars store w lits self.old
             → len ≡ length lits → IsFront vars store w (take to lits) self.new }
     {
         self.unmark(to, len);

@@ -27,7 +27,11 @@ fn false_watch(values: &[bool], watches: &Watches, slot: u32) -> Option<Lit>
     if is_on(values, one.not()) {
         return Some(one);
     }
-    if is_on(values, two.not()) { Some(two) } else { None }
+    if is_on(values, two.not()) {
+        Some(two)
+    } else {
+        None
+    }
 }
 
 /// Visits the clause of this slot by a literal that is false.
@@ -60,7 +64,8 @@ fn look_at_long(trail: &mut Trail, store: &Store, watches: &mut Watches, slot: u
     requires held { IsHeld (over trail.old store.now) }
     requires wide { 2 * trail.old.vars ≤ length watches.old.lists }
     requires long { length store.now.clauses ≤ length watches.old.pairs }
-    requires paired { (clause : List ℕ) → IsThere store.now slot clause → IsPaired watches.old slot clause }
+    requires paired { (clause : List ℕ) → IsThere store.now slot clause
+        → IsPaired watches.old slot clause }
     ensures vars { trail.new.vars ≡ trail.old.vars }
     ensures grown { IsForcedOn trail.old.places trail.new.places }
     ensures held { IsHeld (over trail.new store.now) }

@@ -17,12 +17,7 @@ use crate::watches::Watches;
 use sat_plain::Trail;
 
 /// Looks at all clauses.
-fn look_again(
-    trail: &mut Trail,
-    store: &Store,
-    watches: &mut Watches,
-    front: &mut Front,
-) -> Swept
+fn look_again(trail: &mut Trail, store: &Store, watches: &mut Watches, front: &mut Front) -> Swept
     requires below { All (IsBelow trail.old.vars) store.now.clauses }
     requires held { IsHeld (over trail.old store.now) }
     requires tended { IsTended trail.old.vars store.now (lits_of trail.old.places) watches.old
@@ -49,12 +44,7 @@ fn look_again(
 }
 
 /// Looks at the clauses that came.
-fn look_at_new(
-    trail: &mut Trail,
-    store: &Store,
-    watches: &mut Watches,
-    front: &mut Front,
-) -> Swept
+fn look_at_new(trail: &mut Trail, store: &Store, watches: &mut Watches, front: &mut Front) -> Swept
     requires clean { front.old.dirty ≡ false }
     requires is { IsAssigned trail.old }
     requires below { All (IsBelow trail.old.vars) store.now.clauses }
@@ -142,12 +132,7 @@ fn look_to_the_end(
 }
 
 /// Looks at the clauses that were not looked at since the last mark, and then goes on to the end.
-fn look_through(
-    trail: &mut Trail,
-    store: &Store,
-    watches: &mut Watches,
-    front: &mut Front,
-) -> Swept
+fn look_through(trail: &mut Trail, store: &Store, watches: &mut Watches, front: &mut Front) -> Swept
     requires is { IsAssigned trail.old }
     requires below { All (IsBelow trail.old.vars) store.now.clauses }
     requires held { IsHeld (over trail.old store.now) }

@@ -159,14 +159,12 @@ fn watches_by_other_literals(rt: HostRuntime) -> Result<(), Fail> {
         assert!(rt; ends(&mut watch, to, lit, len, last, reason));
     }
     assert!(rt; ends(&mut watch, 1, Lit(7), 2, Lit(7), None));
-    assert_eq!(rt; add(alloc, &mut watch, &[Lit(2), Lit(6), Lit(8)], 2)?, Some(1));
-    assert_eq!(rt; watch.propagate(), Step::Quiet);
-    assert!(rt;
-        has_trail(
-            &watch,
-            &[(Lit(9), None), (Lit(7), None), (Lit(2), Some(1))]
-        )
+    assert_eq!(rt;
+        add(alloc, &mut watch, &[Lit(2), Lit(6), Lit(8)], 2)?,
+        Some(1)
     );
+    assert_eq!(rt; watch.propagate(), Step::Quiet);
+    assert!(rt; has_trail(&watch, &[(Lit(9), None), (Lit(7), None), (Lit(2), Some(1))]));
     assert!(rt; ends(&mut watch, 0, Lit(3), 1, Lit(3), None));
     assert!(rt; ends(&mut watch, 1, Lit(9), 3, Lit(6), Some(1)));
     Ok(())

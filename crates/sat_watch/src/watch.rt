@@ -39,7 +39,8 @@ impl Model for Watch {
 
     ghost view = { λ a. over a.trail a.store };
 
-    ghost invariant = { λ a. All (IsBelow a.trail.vars) a.store.clauses × IsHeld (over a.trail a.store)
+    ghost invariant = { λ a. All (IsBelow a.trail.vars) a.store.clauses
+        × IsHeld (over a.trail a.store)
         × IsTended a.trail.vars a.store (lits_of a.trail.places) a.watches a.front };
 }
 
@@ -182,7 +183,12 @@ impl Watch {
         ensures step { IsStep self.new result }
     {
         self.trail.push(lit, None);
-        propagate(&mut self.trail, &self.store, &mut self.watches, &mut self.front)
+        propagate(
+            &mut self.trail,
+            &self.store,
+            &mut self.watches,
+            &mut self.front,
+        )
     }
 
     /// The literal that the clause of this slot forces becomes true, and all that follows from it.
@@ -200,7 +206,12 @@ impl Watch {
         ensures step { IsStep self.new result }
     {
         self.trail.push(lit, Some(at));
-        propagate(&mut self.trail, &self.store, &mut self.watches, &mut self.front)
+        propagate(
+            &mut self.trail,
+            &self.store,
+            &mut self.watches,
+            &mut self.front,
+        )
     }
 
     /// All that follows from what is true becomes true.
@@ -211,6 +222,11 @@ impl Watch {
         ensures is { IsAssigned self.new.trail }
         ensures step { IsStep self.new result }
     {
-        propagate(&mut self.trail, &self.store, &mut self.watches, &mut self.front)
+        propagate(
+            &mut self.trail,
+            &self.store,
+            &mut self.watches,
+            &mut self.front,
+        )
     }
 }

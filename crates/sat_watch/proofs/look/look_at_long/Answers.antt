@@ -1,6 +1,5 @@
-use Rattle.std.proofs.Common.{◌≡◌, ℕ, ◌*◌, ◌≤◌, Bool, false, List, length, inr, sym, subst, ◌∙◌, ap, arith}
+use Rattle.std.proofs.Common.{ℕ, Bool, List, inr, sym, subst, ◌∙◌, arith}
 use Rattle.std.specs.List.{All}
-use Rattle.ja_base.specs.Literals.{bit, negated}
 use Rattle.ja_base.specs.Clauses.{IsBelow}
 use Rattle.sat_plain.specs.declared.place.Place.{Place}
 use Rattle.sat_plain.specs.Trails.{lits_of}

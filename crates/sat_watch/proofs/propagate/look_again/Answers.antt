@@ -1,13 +1,8 @@
-use Rattle.std.proofs.Common.{◌≡◌, ℕ, ◌+◌, ◌*◌, ◌^◌, ◌<◌, ◌≤◌, List, length, get_or, drop, Some, slice_get, true, false, refl, sym, subst, ◌∙◌, ap, arith}
-use Rattle.std.specs.List.{All, Contains}
-use Rattle.ja_base.specs.Literals.{bit, variable, negated}
-use Rattle.ja_base.specs.Clauses.{IsBelow}
+use Rattle.std.proofs.Common.{ℕ, List, false, refl, arith}
 use Rattle.sat_plain.specs.declared.place.Place.{Place}
 use Rattle.sat_plain.specs.Trails.{lits_of}
-use Rattle.sat_plain.proofs.PlaceLemmas.{lits_length}
 use Rattle.sat_watch.specs.declared.front.Front.{Front}
-use Rattle.sat_watch.specs.Watching.{Watching, slots_at}
-use Rattle.sat_watch.specs.Visits.{AreSwept}
+use Rattle.sat_watch.specs.Watching.{Watching}
 use Rattle.sat_watch.specs.Fronts.{IsTended}
 use Rattle.sat_watch.proofs.TendLemmas.{tended_grown}
 use Rattle.sat_watch.proofs.PassLemmas.{tended_looked}

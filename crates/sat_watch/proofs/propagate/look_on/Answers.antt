@@ -1,10 +1,7 @@
-use Rattle.std.proofs.Common.{◌≡◌, ℕ, ◌+◌, ◌*◌, ◌^◌, ◌<◌, ◌≤◌, List, length, get_or, drop, Some, slice_get, true, false, refl, sym, subst, ◌∙◌, ap, arith}
-use Rattle.std.specs.List.{All, Contains}
+use Rattle.std.proofs.Common.{◌≡◌, ℕ, ◌+◌, ◌<◌, List, length, Some, slice_get, true, refl, sym, subst, ◌∙◌, ap, arith}
 use Rattle.ja_base.specs.Literals.{bit, variable, negated}
-use Rattle.ja_base.specs.Clauses.{IsBelow}
 use Rattle.sat_plain.specs.declared.place.Place.{Place}
 use Rattle.sat_plain.specs.Trails.{lits_of}
-use Rattle.sat_plain.proofs.PlaceLemmas.{lits_length}
 use Rattle.sat_watch.specs.declared.front.Front.{Front}
 use Rattle.sat_watch.specs.Watching.{Watching, slots_at}
 use Rattle.sat_watch.specs.Visits.{AreSwept}

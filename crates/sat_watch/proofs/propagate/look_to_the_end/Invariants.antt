@@ -1,4 +1,4 @@
-use Rattle.std.proofs.Common.{◌≡◌, ◌-◌, length}
+use Rattle.std.proofs.Common.{◌≡◌, ◌-◌}
 use Rattle.std.specs.List.{All}
 use Rattle.ja_base.specs.Clauses.{IsBelow}
 use Rattle.sat_plain.specs.Trails.{lits_of, IsAssigned}

@@ -1,14 +1,13 @@
-use Rattle.std.proofs.Common.{◌≡◌, ◌≢◌, ℕ, ◌+◌, ◌*◌, ◌<◌, ◌≤◌, List, length, take, get_or, inl, inr, refl, sym, subst, ◌∙◌, ap, arith}
-use Rattle.std.specs.List.{All, Contains}
-use Rattle.std.proofs.lemmas.Bool.Decides.{eqb_tells}
+use Rattle.std.proofs.Common.{ℕ, ◌<◌, List, length, get_or, inl, inr, sym, subst, ◌∙◌, arith}
+use Rattle.std.specs.List.{All}
 use Rattle.std.proofs.lemmas.List.{get_or_default}
 use Rattle.ja_base.specs.Clauses.{IsBelow}
 use Rattle.sat_plain.specs.declared.place.Place.{Place}
 use Rattle.sat_plain.specs.Trails.{lits_of}
 use Rattle.sat_watch.specs.Stores.{IsThere}
-use Rattle.sat_watch.specs.Watching.{Watching, Keeps}
+use Rattle.sat_watch.specs.Watching.{Watching}
 use Rattle.sat_watch.specs.Visits.{IsSafe}
-use Rattle.sat_watch.proofs.StepLemmas.{forced_none, forced_chain}
+use Rattle.sat_watch.proofs.StepLemmas.{forced_chain}
 use Rattle.sat_watch.proofs.MemberLemmas.{taken_cases, taken_all}
 use Rattle.sat_watch.proofs.SafeLemmas.{keeps_chain, keeps_paired, safe_kept, safe_less, safe_more}
 use Rattle.sat_watch.proofs.PassLemmas.{grown_has}

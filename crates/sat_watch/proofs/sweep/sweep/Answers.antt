@@ -1,11 +1,11 @@
-use Rattle.std.proofs.Common.{◌≡◌, ℕ, ◌+◌, ◌*◌, ◌<◌, ◌≤◌, true, List, length, refl, sym, subst, ◌∙◌, ap, arith}
-use Rattle.std.specs.List.{All, Contains}
-use Rattle.ja_base.specs.Literals.{bit, negated}
+use Rattle.std.proofs.Common.{ℕ, ◌+◌, List, refl, sym, subst, ◌∙◌, arith}
+use Rattle.std.specs.List.{All}
+use Rattle.ja_base.specs.Literals.{negated}
 use Rattle.ja_base.specs.Clauses.{IsBelow}
 use Rattle.sat_plain.specs.declared.place.Place.{Place}
 use Rattle.sat_plain.specs.Trails.{lits_of}
-use Rattle.sat_watch.specs.Watching.{Watching, slots_at, Keeps}
-use Rattle.sat_watch.specs.Visits.{IsTrueUnder, Moves, AreSwept}
+use Rattle.sat_watch.specs.Watching.{Watching, slots_at}
+use Rattle.sat_watch.specs.Visits.{Moves, AreSwept}
 use Rattle.sat_watch.proofs.StepLemmas.{forced_none, forced_chain}
 use Rattle.sat_watch.proofs.SafeLemmas.{keeps_none, keeps_chain, based_kept, safe_more}
 use Rattle.sat_watch.proofs.SweepLemmas.{swept_begin, swept_next, swept_passed, past_end}

@@ -1,4 +1,4 @@
-use Rattle.std.proofs.Common.{◌≡◌, ◌*◌, ◌-◌, ◌<◌, ◌≤◌, ℕ, true, List, length}
+use Rattle.std.proofs.Common.{◌≡◌, ◌*◌, ◌-◌, ◌<◌, ◌≤◌, ℕ, true, length}
 use Rattle.std.specs.List.{All}
 use Rattle.ja_base.specs.Literals.{bit, negated}
 use Rattle.ja_base.specs.Clauses.{IsBelow}

@@ -1,4 +1,4 @@
-use Rattle.std.proofs.Common.{◌≡◌, ◌≢◌, ℕ, ◌<◌, List, length, inl, inr, sym, subst, ◌∙◌, ap, arith}
+use Rattle.std.proofs.Common.{◌≡◌, ◌≢◌, ℕ, ◌<◌, List, length, inl, inr, sym, subst, arith}
 use Rattle.std.proofs.lemmas.Bool.{OnFalse_at}
 use Rattle.ja_base.specs.Literals.{bit, negated}
 use Rattle.std.proofs.Common.{true}

@@ -1,4 +1,4 @@
-use Rattle.std.proofs.Common.{◌≡◌, ℕ, Some, length, refl, set, ap, arith}
+use Rattle.std.proofs.Common.{◌≡◌, Some, length, refl, set, ap, arith}
 use Rattle.std.specs.Vec.{with_item}
 use Rattle.sat_watch.specs.declared.front.Front.{Front}
 use Rattle.sat_watch.proofs.FrontLemmas.{front_marked}

@@ -1,5 +1,4 @@
-use Rattle.std.proofs.Common.{◌≡◌, ℕ, List, true, false, Some, refl, slice_get}
-use Rattle.std.proofs.lemmas.Bool.{both_ways}
+use Rattle.std.proofs.Common.{true, false}
 use Rattle.sat_watch.specs.declared.front.Front.{Front}
 use Rattle.sat_watch.proofs.FrontLemmas.{front_back}
 use Rattle.sat_watch.proofs.front.Front.retreat.Goals as goal

@@ -1,9 +1,9 @@
-use Rattle.std.proofs.Common.{◌≡◌, ℕ, ◌≤◌, List, [], All, length, get_or, sym, subst, ◌∙◌, ap}
+use Rattle.std.proofs.Common.{◌≡◌, ℕ, ◌≤◌, List, All, length, sym, subst, ap}
 use Rattle.ja_base.specs.Clauses.{IsBelow}
 use Rattle.sat_plain.specs.Trails.{lits_of}
 use Rattle.sat_watch.specs.Stores.{Stored, Watched, IsPut, IsHeld, over}
 use Rattle.sat_watch.specs.Fronts.{IsTended}
-use Rattle.sat_watch.specs.Watching.{Watching, IsPaired}
+use Rattle.sat_watch.specs.Watching.{IsPaired}
 use Rattle.sat_watch.proofs.SlotLemmas.{All-put}
 use Rattle.sat_watch.proofs.HeldLemmas.{held_put}
 use Rattle.sat_watch.proofs.TendLemmas.{tended_put, tended_but, front_noted}

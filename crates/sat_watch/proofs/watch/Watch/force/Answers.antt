@@ -1,4 +1,4 @@
-use Rattle.std.proofs.Common.{◌≡◌, ℕ, List, Some, true, sym, subst, ap}
+use Rattle.std.proofs.Common.{◌≡◌, ℕ, Some, true, sym, subst}
 use Rattle.std.proofs.lemmas.Option.{same_Some}
 use Rattle.ja_base.specs.Literals.{bit}
 use Rattle.ja_base.specs.Trails.{IsForcedBy}

@@ -1,12 +1,12 @@
-use Rattle.std.proofs.Common.{◌≡◌, ℕ, ◌+◌, ◌*◌, ◌≤◌, List, [], ◌∷◌, ◌++◌, length, get_or, Some, slice_get, sym, subst, ◌∙◌, ap, arith}
-use Rattle.std.specs.List.{All, Contains}
+use Rattle.std.proofs.Common.{◌≡◌, ℕ, ◌+◌, ◌*◌, ◌≤◌, List, [], ◌∷◌, ◌++◌, length, slice_get, sym, subst, ◌∙◌, ap, arith}
+use Rattle.std.specs.List.{All}
 use Rattle.std.proofs.lemmas.List.{length_push}
 use Rattle.ja_base.specs.Clauses.{IsBelow}
 use Rattle.sat_plain.specs.declared.place.Place.{Place}
 use Rattle.sat_plain.specs.Trails.{Assigned, AreForced, lits_of}
 use Rattle.sat_watch.specs.declared.front.Front.{Front}
 use Rattle.sat_watch.specs.Stores.{Stored, IsHeld, over}
-use Rattle.sat_watch.specs.Fronts.{IsFront, IsTended}
+use Rattle.sat_watch.specs.Fronts.{IsTended}
 use Rattle.sat_watch.specs.Watching.{Watching}
 use Rattle.sat_watch.proofs.TendLemmas.{tended_front, tended_listed, tended_wider}
 use Rattle.sat_watch.proofs.watch.Watch.fresh.Goals as goal
@@ -100,8 +100,15 @@ invariant_of-self-2 c =
     let none : List ℕ = [] in
     let wide : 2 * new.vars ≤ length z.lists =
     let w = i.2.wide in
-    omega (arith, w, vars, ap (λ (v : Watching). length v.lists) c.in_ok-fresh-2.ensures.ok, length_push a.lists none,
-    ap (λ (v : Watching). length v.lists) c.in_ok-fresh-3.ensures.ok, length_push b.lists none) in
+    omega (
+      arith,
+      w,
+      vars,
+      ap (λ (v : Watching). length v.lists) c.in_ok-fresh-2.ensures.ok,
+      length_push a.lists none,
+      ap (λ (v : Watching). length v.lists) c.in_ok-fresh-3.ensures.ok,
+      length_push b.lists none,
+    ) in
     let first : IsTended trail.vars c.self.inside.store lits z c.fresh.new.self =
     two_lists trail.vars c.self.inside.store lits a b z c.fresh.new.self c.in_ok-fresh-2.ensures.ok c.in_ok-fresh-3.ensures.ok
     (tended_front trail.vars c.self.inside.store lits a c.self.inside.front c.fresh.new.self

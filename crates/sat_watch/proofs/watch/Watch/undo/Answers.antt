@@ -1,4 +1,4 @@
-use Rattle.std.proofs.Common.{◌≡◌, ℕ, List, All, length, take, sym, subst, ◌∙◌, ap, arith}
+use Rattle.std.proofs.Common.{ℕ, List, All, length, take, sym, subst, ◌∙◌, ap, arith}
 use Rattle.ja_base.specs.Clauses.{IsBelow}
 use Rattle.sat_plain.specs.Trails.{lits_of}
 use Rattle.sat_plain.proofs.PlaceLemmas.{lits_take, lits_length}

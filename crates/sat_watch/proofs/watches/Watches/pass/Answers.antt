@@ -1,7 +1,6 @@
-use Rattle.std.proofs.Common.{◌≡◌, ℕ, ◌+◌, ◌≤◌, ◌<◌, ◌≢◌, ◌++◌, ◌∷◌, List, [], length, get_or, set, drop, Some, slice_get, refl, sym, subst, ◌∙◌, ap, arith}
+use Rattle.std.proofs.Common.{◌≡◌, ℕ, ◌+◌, ◌≤◌, ◌<◌, ◌≢◌, ◌++◌, ◌∷◌, List, [], length, get_or, set, drop, Some, slice_get, sym, subst, ◌∙◌, ap, arith}
 use Rattle.std.specs.List.{Contains}
 use Rattle.std.proofs.lemmas.List.{get_or_default, get_or-set_other, length-set}
-use Rattle.sat_watch.specs.declared.pair.Pair.{Pair}
 use Rattle.sat_watch.specs.Watching.{Watching, slots_at, IsPassed}
 use Rattle.sat_watch.proofs.WatchLemmas.{passed}
 use Rattle.sat_watch.proofs.watches.Watches.pass.Goals as goal
