@@ -1,9 +1,9 @@
 -- What a solver keeps between questions.
-use Rattle.std.proofs.Common.{◌≡◌, ℕ, ◌+◌, ◌<◌, ◌≤◌, ◌^◌, List, [], ◌∷◌, ◌++◌, length, get_or, take, None, refl, sym, subst, ◌∙◌, ap, arith}
+use Rattle.std.proofs.Common.{◌≡◌, ℕ, ◌+◌, ◌<◌, ◌≤◌, ◌^◌, List, [], ◌∷◌, ◌++◌, length, get_or, take, None, Some, slice_get, refl, sym, subst, ◌∙◌, ap, arith}
 use Rattle.std.specs.List.{All}
 use Rattle.std.proofs.lemmas.List.{length_push, length-append, length-map, get_or-map, take_at}
 use Rattle.std.proofs.lemmas.List.Elements.{All-push, All-take, All-weaker}
-use Rattle.std.proofs.lemmas.Option.{get_or_from_slice_get}
+use Rattle.std.proofs.lemmas.Option.{get_or_from_slice_get, slice_get_within}
 use Rattle.ja_base.specs.Literals.{value, SatisfiedBy}
 use Rattle.refute_check.specs.Checked.{Follows, FollowsOne, clauses_at}
 use Rattle.refute_check.proofs.ListLemmas.{clauses_at_push, clauses_at_more}
@@ -32,6 +32,13 @@ chosen_follow list added within v all = λ k d less.
     let low : k < length added = omega (arith, less, length-map added f) in
     let P : List ℕ → Type 0 = SatisfiedBy (value v) in
     subst P (sym (get_or-map f added k 0 d low)) (all (get_or added k 0) [] (within k 0 low))
+
+-- a clause of a list that follows
+pub follows_at : (added list : List (List ℕ)) (k : ℕ) (clause : List ℕ) → Follows added list → slice_get list k ≡ Some clause
+    → FollowsOne added clause
+follows_at added list k clause follows is v all =
+    let P : List ℕ → Type 0 = SatisfiedBy (value v) in
+    subst P (get_or_from_slice_get list k clause clause is) (follows v all k clause (slice_get_within list k clause is))
 
 -- one more added clause
 pub keeper_push : (vars : ℕ) (a b : Filed) (added : List ℕ) (clause : List ℕ) → IsKeeper vars a added

@@ -20,14 +20,16 @@ const FADES_EVERY: u32 = 16;
 /// As many variables have literals.
 pub(crate) const MOST_VARS: u32 = 1 << 31;
 
-/// Variables by their activity, the sign of each when it last had a value, how many conflicts came since activities faded, and
-/// how many of the variables that a question gives were passed by.
+/// Variables by their activity, the sign of each when it last had a value, how many conflicts came since activities faded, how
+/// many of the variables that a question gives were passed by, and the first variable that may have no value and is not in
+/// the heap. One that took part in no conflict since its activity faded does not come back to the heap.
 #[derive(Debug, Drop)]
 pub(crate) struct Order {
     heap: Heap,
     negs: Vec<bool>,
     conflicts: u32,
     passed: usize,
+    least: u32,
 }
 
 impl Model for Order {
@@ -73,6 +75,7 @@ impl Order {
             negs,
             conflicts: 0,
             passed: 0,
+            least: 0,
         })
     }
 
@@ -114,9 +117,14 @@ impl Order {
     {
         let var = lit.var();
         self.negs[var.number() as usize] = lit.is_neg();
-        if !self.heap.has(var) {
-            self.heap.put(var);
+        if self.heap.has(var) {
+            return;
         }
+        if self.heap.activity(var) == 0 {
+            self.least = self.least.min(var.number());
+            return;
+        }
+        self.heap.put(var);
     }
 
     /// The variables of all places but the first ones, so many, are about to lose their values.
@@ -148,6 +156,38 @@ impl Order {
         None
     }
 
+    /// The next variable without a value by number.
+    fn take_next(&mut self, trail: &Trail) -> Option<Var>
+        requires { trail.now.vars ≤ self.old }
+        ensures same { self.new ≡ self.old }
+        ensures some { IfSome result (λ var. (var < trail.now.vars) × (var < 2 ^ 31)
+            × (bit trail.now.values (2 * var) ≡ false)
+            × (bit trail.now.values (2 * var + 1) ≡ false)) }
+    {
+        for number in self.least..trail.vars() {
+            if is_open(trail, Var(number)) {
+                self.least = number;
+                return Some(Var(number));
+            }
+        }
+        self.least = trail.vars();
+        None
+    }
+
+    /// A variable without a value, one that is in the heap if there is one.
+    fn propose(&mut self, trail: &Trail) -> Option<Var>
+        requires { trail.now.vars ≤ self.old }
+        ensures same { self.new ≡ self.old }
+        ensures some { IfSome result (λ var. (var < trail.now.vars) × (var < 2 ^ 31)
+            × (bit trail.now.values (2 * var) ≡ false)
+            × (bit trail.now.values (2 * var + 1) ≡ false)) }
+    {
+        match self.take(trail) {
+            Some(var) => Some(var),
+            None => self.take_next(trail),
+        }
+    }
+
     /// A variable without a value, if there is one.
     fn pick(&mut self, trail: &Trail) -> Option<Var>
         requires { trail.now.vars ≤ self.old }
@@ -157,7 +197,7 @@ impl Order {
             × (bit trail.now.values (2 * var + 1) ≡ false)) }
         ensures full { IfNone result (IsFull trail.now.vars trail.now.values) }
     {
-        match self.take(trail) {
+        match self.propose(trail) {
             Some(var) => Some(var),
             None => trail.unset(),
         }

@@ -21,7 +21,10 @@ impl Probe for KeepSat {
         match pay(meter, flag) {
             Payment::Spent => Probed::Spent,
             Payment::Stopped => Probed::Stopped,
-            Payment::Paid => self.question(alloc, under, extra, among, row, meter, flag),
+            Payment::Paid => {
+                self.reduce(alloc);
+                self.question(alloc, under, extra, among, row, meter, flag)
+            }
         }
     }
 }

@@ -21,13 +21,21 @@ use sat_plain::{Probed, Sat, SatAnswer};
 use std::alloc::Global;
 use std::marker::Model;
 
+/// A kept clause of more literals is dropped when the kept ones are reduced.
+const SHORT: usize = 8;
+
+/// So many clauses are never reduced.
+const FEW: u32 = 2000;
+
 /// A solver for questions without a log. From question to question it keeps what it learnt, but for what rests on an extra
-/// clause, and all that `LearnSat` keeps. A query with a log is handed to a `LearnSat` that is made for it.
+/// clause, and all that `LearnSat` keeps; now and then it drops the long ones of these clauses. A query with a log is handed to a
+/// `LearnSat` that is made for it.
 #[derive(Debug, Drop)]
 pub struct KeepSat {
     db: Database,
     order: Order,
     added: Vec<u32>,
+    most: u32,
 }
 
 impl Model for KeepSat {
@@ -46,13 +54,14 @@ impl Model for KeepSat {
     ghost invariant = { λ a. IsKeeper a.order a.db a.added.items };
 }
 
-/// A solver that logs, with the clauses of these numbers.
-fn load(alloc: Global, db: &Database, added: &[u32]) -> Result<LearnSat, Memory>
+/// A solver with the clauses of these numbers.
+fn load<S: Sat>(alloc: Global, db: &Database, added: &[u32]) -> Result<S, Memory>
     requires { All (λ n. n < length (list_of db.now)) added.now }
-    ensures vars { IfOk result (λ solver. solver.vars ≡ db.now.watched.trail.vars) }
-    ensures added { IfOk result (λ solver. solver.added ≡ clauses_at (list_of db.now) added.now) }
+    ensures vars { IfOk result (λ solver. S.count solver ≡ db.now.watched.trail.vars) }
+    ensures added { IfOk result
+        (λ solver. S.added solver ≡ clauses_at (list_of db.now) added.now) }
 {
-    let mut solver = LearnSat::make(alloc, db.vars())?;
+    let mut solver = S::make(alloc, db.vars())?;
     for number in added {
         solver.add(alloc, db.numbered(*number))?;
     }
@@ -73,6 +82,36 @@ fn recall(db: &mut Database, mut clauses: Vec<Clause>)
             Err(_) => return,
         }
     }
+}
+
+/// Whether the number is the next of these, which is then passed by.
+fn is_next(added: &[u32], next: &mut usize, number: u32) -> bool {
+    if *next < added.len() && added[*next] == number {
+        *next += 1;
+        return true;
+    }
+    false
+}
+
+/// Copies of the short clauses that do not have one of these numbers, which ascend.
+fn short_of(alloc: Global, db: &Database, added: &[u32]) -> Result<Vec<Clause>, Memory>
+    ensures { IfOk result (λ kept. (added : List (List ℕ)) → Follows added (list_of db.now)
+        → All (IsKeepable db.now.watched.trail.vars added) kept.items) }
+{
+    let mut question = Question::new(alloc, 0);
+    let mut next = 0;
+    for number in 0..db.len() {
+        let clause = db.numbered(number);
+        let leaves = is_next(added, &mut next, number) || clause.lits().len() > SHORT;
+        question.note(alloc, clause, leaves)?;
+    }
+    let Question {
+        query: _,
+        first: _,
+        taints: _,
+        kept,
+    } = question;
+    Ok(kept)
 }
 
 /// Answers over the clauses and the extra one.
@@ -123,6 +162,61 @@ fn ask<F: Flag>(
 }
 
 impl KeepSat {
+    /// Keeps these clauses, which follow from the added ones, as long as there is memory.
+    fn keep(&mut self, clauses: Vec<Clause>)
+        requires { All (IsKeepable self.old.vars self.old.added) clauses.items }
+        ensures { self.new ≡ self.old }
+    {
+        recall(&mut self.db, clauses);
+    }
+
+    /// The same solver without the long clauses among those that it kept.
+    fn reduced(&self, alloc: Global) -> Result<KeepSat, Memory>
+        ensures { IfOk result (λ solver. solver ≡ self.now) }
+    {
+        let kept = short_of(alloc, &self.db, self.added.as_slice())?;
+        let mut solver: KeepSat = load(alloc, &self.db, self.added.as_slice())?;
+        solver.keep(kept);
+        Ok(solver)
+    }
+
+    /// Takes the clauses of another solver, which are the same but for those that it kept.
+    fn adopt(&mut self, other: KeepSat)
+        requires { other ≡ self.old }
+        ensures { self.new ≡ self.old }
+    {
+        let KeepSat {
+            db,
+            order: _,
+            added,
+            most: _,
+        } = other;
+        self.order.release_all(self.db.trail(), 0);
+        self.db = db;
+        self.added = added;
+    }
+
+    /// Drops the long clauses among those that it kept, if there is memory.
+    fn shrink(&mut self, alloc: Global)
+        ensures { self.new ≡ self.old }
+    {
+        match self.reduced(alloc) {
+            Ok(solver) => self.adopt(solver),
+            Err(_) => {}
+        }
+    }
+
+    /// Drops the long clauses among those that it kept, once there are many.
+    pub(crate) fn reduce(&mut self, alloc: Global)
+        ensures { self.new ≡ self.old }
+    {
+        if self.db.len() <= self.most {
+            return;
+        }
+        self.shrink(alloc);
+        self.most = self.db.len().saturating_mul(2).max(FEW);
+    }
+
     /// A question behind its first unit. What the clauses force stays on the trail, and what follows from the added ones alone
     /// is kept.
     pub(crate) fn question<F: Flag>(
@@ -198,6 +292,7 @@ impl Sat for KeepSat {
             db,
             order,
             added: Vec::new(alloc),
+            most: FEW,
         })
     }
 
@@ -253,7 +348,7 @@ impl Sat for KeepSat {
             (IsFoundRaised F.may_rise F.raised flag.old flag.new) }
         ensures flag { IsPolled F.may_rise F.raised flag.old flag.new }
     {
-        match load(alloc, &self.db, self.added.as_slice()) {
+        match load::<LearnSat>(alloc, &self.db, self.added.as_slice()) {
             Ok(mut solver) => solver.solve(alloc, under, extra, meter, flag),
             Err(_) => SatAnswer::Memory,
         }

@@ -70,7 +70,12 @@ impl Question {
     }
 
     /// A copy is kept, unless the clause may rest on the extra one.
-    fn note(&mut self, alloc: Global, clause: &Clause, tainted: bool) -> Result<(), Memory>
+    pub(crate) fn note(
+        &mut self,
+        alloc: Global,
+        clause: &Clause,
+        tainted: bool,
+    ) -> Result<(), Memory>
         ensures query { self.new.query ≡ self.old.query }
         ensures first { self.new.first ≡ self.old.first }
         ensures taints { self.new.taints.items ≡ self.old.taints.items }

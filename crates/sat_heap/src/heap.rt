@@ -1,6 +1,6 @@
 //! The heap.
 
-ghost use Rattle.std.specs.Prelude.{◌≡◌, ℕ, ◌/◌, ◌<◌, ◌^◌, [], ◌∷◌, ◌++◌, false, true, length, map, replicate, slice_set, slice_index, IfOk, OnOk, OnErr, IfSome, IfNone};
+ghost use Rattle.std.specs.Prelude.{◌≡◌, ℕ, ◌/◌, ◌<◌, ◌^◌, [], ◌∷◌, ◌++◌, false, true, length, map, replicate, slice_get, slice_set, slice_index, Some, IfOk, OnOk, OnErr, IfSome, IfNone};
 ghost use Rattle.ja_base.specs.Literals.{bit};
 ghost use Rattle.ja_base.specs.Meter.{next_count};
 ghost use Rattle.sat_heap.specs.Heaps.{IsGreatest};
@@ -34,7 +34,8 @@ impl Model for Heap {
       inside = inside_of a.len a.order.places.items;
     } };
 
-    ghost invariant = { λ a. IsHeap a.len a.order.vars.items a.order.places.items a.activity.items };
+    ghost invariant = { λ a. IsHeap a.len a.order.vars.items a.order.places.items
+        a.activity.items };
 }
 
 impl Heap {
@@ -113,6 +114,14 @@ impl Heap {
         ensures { result ≡ bit self.now.inside var }
     {
         self.order.places[var.number() as usize] < self.len
+    }
+
+    /// The activity of a variable, in the heap or not.
+    pub fn activity(&self, var: Var) -> u64
+        requires { var < length self.now.activity }
+        ensures { slice_get self.now.activity var ≡ Some result }
+    {
+        self.activity[var.number() as usize]
     }
 
     /// A variable that is not in the heap comes back. Nothing grows.

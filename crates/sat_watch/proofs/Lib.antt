@@ -2,6 +2,10 @@ pub mod SlotLemmas
 pub mod HeldLemmas
 pub mod StepLemmas
 pub mod StillLemmas
+pub mod SafeLemmas
+pub mod MemberLemmas
 pub mod FrontLemmas
-pub mod OccursLemmas
 pub mod TendLemmas
+pub mod SweepLemmas
+pub mod WatchLemmas
+pub mod PassLemmas

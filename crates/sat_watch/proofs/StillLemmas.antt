@@ -1,10 +1,8 @@
 -- Clauses that stay still as literals come.
-use Rattle.std.proofs.Common.{◌≡◌, ◌≢◌, ℕ, ◌+◌, ◌<◌, ◌≤◌, ◌-◌, ◌⊎◌, Bool, true, false, not, cond, List, [], ◌∷◌, ◌++◌, length, get_or, take, drop, Some, slice_get, inl, inr, refl, sym, subst, ◌∙◌, ap, arith}
+use Rattle.std.proofs.Common.{◌≡◌, ◌≢◌, ℕ, ◌+◌, ◌<◌, ◌≤◌, ◌-◌, ◌⊎◌, Bool, true, false, not, cond, List, [], ◌∷◌, ◌++◌, length, get_or, take, drop, Some, inl, inr, refl, sym, subst, ◌∙◌, ap, arith}
 use Rattle.std.specs.List.{Contains}
-use Rattle.std.proofs.Math.Seq.{take-length}
 use Rattle.std.proofs.lemmas.Bool.{both_ways, cases_lt, false_from_ne_true}
 use Rattle.std.proofs.lemmas.List.{take_at, length-append, length-drop, get_or-drop, get_or_append_left}
-use Rattle.std.proofs.lemmas.List.Elements.{Contains-append_left, Contains-append_right, Contains-append_cases}
 use Rattle.std.proofs.lemmas.Option.{slice_get-get_or}
 use Rattle.ja_base.specs.Literals.{bit, negated}
 use Rattle.ja_base.specs.Clauses.{has_literal}
@@ -13,7 +11,7 @@ use Rattle.ja_base.specs.Trails.{open_lits, IsTrail}
 use Rattle.sat_plain.proofs.Members.{taken_at, dropped_at, taken_is_on, Contains-here, Contains-there, Contains-cases, Contains-none}
 use Rattle.sat_plain.proofs.WalkLemmas.{taken_has}
 use Rattle.sat_watch.specs.Steps.{IsStill}
-use Rattle.sat_watch.specs.Fronts.{open_under, IsStillUnder, IsLate, IsFine}
+use Rattle.sat_watch.specs.Fronts.{open_under, IsStillUnder, IsFine}
 
 -- ---- members
 
@@ -146,11 +144,36 @@ still_values vars values lits clause is h =
     let same = open_same values lits clause (bits_are vars values lits is) in
     record { some = λ e. h.some (sym same ∙ e); unforced = λ l e. is.on l (h.unforced l (sym same ∙ e)) }
 
--- a clause of which a literal became true is still
+-- a literal of a clause that is not false is among its open ones
+pub open_has : (lits clause : List ℕ) (l : ℕ) → Contains clause l → (Contains lits (negated l) → ⊥)
+    → Contains (open_under lits clause) l
+open_has lits clause l has free = go clause has
+  where
+    not_there : has_literal lits (negated l) ≡ false
+    not_there = false_from_ne_true (has_literal lits (negated l)) (λ e. free ((has_literal_decides lits (negated l)).0 e))
+
+    go : (c : List ℕ) → Contains c l → Contains (open_under lits c) l
+    go [] h = h
+    go (x ∷ xs) h =
+        elim (Contains-cases x l xs h) [
+          | inl q ↦
+              let e : has_literal lits (negated x) ≡ false = ap (λ k. has_literal lits (negated k)) q ∙ not_there in
+              let P : Bool → Type 0 = λ b. Contains (cond (not b) (x ∷ open_under lits xs) (open_under lits xs)) l in
+              let Q : ℕ → Type 0 = λ k. Contains (x ∷ open_under lits xs) k in
+              subst P (sym e) (subst Q q (Contains-here x (open_under lits xs)))
+          | inr k ↦ more x xs (has_literal lits (negated x)) (go xs k)
+        ]
+      where
+        more : (x : ℕ) (xs : List ℕ) (b : Bool) → Contains (open_under lits xs) l
+            → Contains (cond (not b) (x ∷ open_under lits xs) (open_under lits xs)) l
+        more x xs true h = h
+        more x xs false h = Contains-there x l (open_under lits xs) h
+
+-- a clause of which a literal is true is still
 pub still_forced : (lits clause : List ℕ) (l : ℕ) → Contains clause l → Contains lits l → (Contains lits (negated l) → ⊥)
     → IsStillUnder lits clause
 still_forced lits clause l has true_now free =
-    let here : Contains (open_under lits clause) l = open_has clause has in
+    let here : Contains (open_under lits clause) l = open_has lits clause l has free in
     record {
       some = λ e. let P : List ℕ → Type 0 = λ v. Contains v l in Contains-none l (subst P e here);
       unforced = λ x e.
@@ -161,23 +184,24 @@ still_forced lits clause l has true_now free =
             | inr k ↦ absurd (Contains-none l k)
           ];
     }
-  where
-    not_there : has_literal lits (negated l) ≡ false
-    not_there = false_from_ne_true (has_literal lits (negated l)) (λ e. free ((has_literal_decides lits (negated l)).0 e))
 
-    open_has : (c : List ℕ) → Contains c l → Contains (open_under lits c) l
-    open_has [] h = h
-    open_has (x ∷ xs) h =
-        elim (Contains-cases x l xs h) [
-          | inl q ↦
-              let e : has_literal lits (negated x) ≡ false = ap (λ k. has_literal lits (negated k)) q ∙ not_there in
-              let P : Bool → Type 0 = λ b. Contains (cond (not b) (x ∷ open_under lits xs) (open_under lits xs)) l in
-              let Q : ℕ → Type 0 = λ k. Contains (x ∷ open_under lits xs) k in
-              subst P (sym e) (subst Q q (Contains-here x (open_under lits xs)))
-          | inr k ↦ go x xs (has_literal lits (negated x)) (open_has xs k)
-        ]
-      where
-        go : (x : ℕ) (xs : List ℕ) (b : Bool) → Contains (open_under lits xs) l
-            → Contains (cond (not b) (x ∷ open_under lits xs) (open_under lits xs)) l
-        go x xs true h = h
-        go x xs false h = Contains-there x l (open_under lits xs) h
+-- a clause of which two literals are not false is still
+pub open_has_two : (lits clause : List ℕ) (l m : ℕ) → Contains clause l → Contains clause m → l ≢ m
+    → (Contains lits (negated l) → ⊥) → (Contains lits (negated m) → ⊥) → IsStillUnder lits clause
+open_has_two lits clause l m has also apart free open_too =
+    let one : Contains (open_under lits clause) l = open_has lits clause l has free in
+    let two : Contains (open_under lits clause) m = open_has lits clause m also open_too in
+    record {
+      some = λ e. let P : List ℕ → Type 0 = λ v. Contains v l in Contains-none l (subst P e one);
+      unforced = λ x e.
+          let P : List ℕ → Type 0 = λ v. Contains v l in
+          let Q : List ℕ → Type 0 = λ v. Contains v m in
+          elim (Contains-cases x l [] (subst P e one)) [
+            | inl same ↦
+                elim (Contains-cases x m [] (subst Q e two)) [
+                  | inl again ↦ absurd (apart (sym same ∙ again))
+                  | inr k ↦ absurd (Contains-none m k)
+                ]
+            | inr k ↦ absurd (Contains-none l k)
+          ];
+    }

@@ -1,5 +1,5 @@
--- Lists and front as clauses and variables come and go.
-use Rattle.std.proofs.Common.{◌≡◌, ◌≢◌, ℕ, ◌+◌, ◌*◌, ◌<◌, ◌≤◌, Bool, true, false, nat_lt, cond, List, [], ◌∷◌, ◌++◌, length, get_or, set, take, drop, Some, None, slice_get, inl, inr, refl, sym, subst, ◌∙◌, ap, arith}
+-- What watches and front are as literals, clauses and variables come and go.
+use Rattle.std.proofs.Common.{◌≡◌, ◌≢◌, ℕ, ◌*◌, ◌<◌, ◌≤◌, Bool, true, false, nat_lt, cond, List, [], ◌∷◌, ◌++◌, length, get_or, set, take, drop, Some, slice_get, inl, inr, refl, sym, subst, ◌∙◌, ap, arith}
 use Rattle.std.specs.List.{Contains}
 use Rattle.std.proofs.lemmas.Bool.{both_ways, cases_lt}
 use Rattle.std.proofs.lemmas.Bool.Decides.{eqb_tells, nat_tests}
@@ -14,37 +14,64 @@ use Rattle.sat_plain.proofs.TrailLemmas.{bit_set_same, bit_set_other, bit_within
 use Rattle.sat_watch.specs.declared.front.Front.{Front}
 use Rattle.sat_watch.specs.declared.tag.Tag.{Tag}
 use Rattle.sat_watch.specs.Stores.{Stored, IsThere, IsPut, put_at}
-use Rattle.sat_watch.specs.Fronts.{IsStillUnder, IsFine, AreFine, IsMark, IsFront, IsListed, IsTended}
-use Rattle.sat_watch.proofs.FrontLemmas.{front_more, slice_get_set}
+use Rattle.sat_watch.specs.Steps.{IsForcedOn}
+use Rattle.sat_watch.specs.Watching.{Watching, IsKeptBut, IsPaired, Keeps}
+use Rattle.sat_watch.specs.Visits.{IsSafe}
+use Rattle.sat_watch.specs.Fronts.{IsFront, IsTended}
+use Rattle.sat_watch.proofs.FrontLemmas.{front_more, front_grown, front_kept, slice_get_set}
+use Rattle.sat_watch.proofs.SafeLemmas.{keeps_paired, paired_but, safe_but}
 use Rattle.sat_watch.proofs.StillLemmas.{dropped_has}
 
 -- ---- a literal comes
 
-pub tended_push : (vars : ℕ) (store : Stored) (before after : List Place) (x : Place) (occurs : List (List ℕ)) (front : Front)
-    → after ≡ before ++ x ∷ [] → IsTended vars store (lits_of before) occurs front
-    → IsTended vars store (lits_of after) occurs front
-tended_push vars store before after x occurs front e h = record {
-  listed = h.listed;
+pub tended_push : (vars : ℕ) (store : Stored) (before after : List Place) (x : Place) (w : Watching) (front : Front)
+    → after ≡ before ++ x ∷ [] → IsTended vars store (lits_of before) w front
+    → IsTended vars store (lits_of after) w front
+tended_push vars store before after x w front e h = record {
+  wide = h.wide;
+  long = h.long;
+  paired = h.paired;
   front_is =
-      front_more vars store (lits_of before) (x.lit ∷ []) (lits_of after) front (ap lits_of e ∙ lits_push before x) h.front_is;
+      front_more vars store w (lits_of before) (x.lit ∷ []) (lits_of after) front (ap lits_of e ∙ lits_push before x) h.front_is;
 }
+
+pub tended_grown : (vars : ℕ) (store : Stored) (before after : List Place) (a b : Watching) (front : Front)
+    → IsForcedOn before after → Keeps store (lits_of before) a b → IsTended vars store (lits_of before) a front
+    → IsTended vars store (lits_of after) b front
+tended_grown vars store before after a b front grown keeps h = record {
+  wide = omega (arith, h.wide, keeps.width);
+  long = omega (arith, h.long, keeps.long);
+  paired = λ k clause there two. keeps_paired store (lits_of before) a b k clause keeps there (h.paired k clause there two);
+  front_is =
+      front_grown vars store b before after front grown (front_kept vars store a b (lits_of before) front keeps h.front_is);
+}
+
+-- how far propagation has come is known anew
+pub tended_front : (vars : ℕ) (store : Stored) (lits : List ℕ) (w : Watching) (a b : Front) → IsFront vars store w lits b
+    → IsTended vars store lits w a → IsTended vars store lits w b
+tended_front vars store lits w a b front h =
+    record { wide = h.wide; long = h.long; paired = h.paired; front_is = front }
 
 -- ---- fewer clauses are there
 
-pub front_fewer : (vars : ℕ) (before after : Stored) (lits : List ℕ) (front : Front)
-    → ((k : ℕ) (clause : List ℕ) → IsThere after k clause → IsThere before k clause) → IsFront vars before lits front
-    → IsFront vars after lits front
-front_fewer vars before after lits front fewer h = record {
+pub front_fewer : (vars : ℕ) (before after : Stored) (a b : Watching) (lits : List ℕ) (front : Front) (at : ℕ)
+    → IsKeptBut at a b
+    → ((k : ℕ) (clause : List ℕ) → IsThere after k clause → (k ≢ at) × IsThere before k clause) → IsFront vars before a lits front
+    → IsFront vars after b lits front
+front_fewer vars before after a b lits front at but fewer h = record {
   wide = h.wide;
   marked = λ d n f.
       let old = h.marked d n f in record {
         within = old.within;
         known = old.known;
-        still = λ k clause there off. old.still k clause (fewer k clause there) off;
+        safe = λ k clause there off.
+            let o = fewer k clause there in
+            safe_but at a b (take d lits) (take d lits) k clause but o.0 (old.safe k clause o.1 off);
       };
   low = h.low;
   read = h.read;
-  fine = λ f k clause there off. h.fine f k clause (fewer k clause there) off;
+  safe = λ f k clause there off.
+      let o = fewer k clause there in safe_but at a b lits (take front.head lits) k clause but o.0 (h.safe f k clause o.1 off);
 }
 
 pub there_before : (before after : Stored) (at k : ℕ) (clause : List ℕ) → after.clauses ≡ before.clauses
@@ -67,31 +94,21 @@ there_before before after at k clause clauses live there =
       },
     )
 
-pub tended_forget : (vars : ℕ) (before after : Stored) (lits : List ℕ) (occurs fewer : List (List ℕ)) (front : Front) (at : ℕ)
-    → after.clauses ≡ before.clauses → after.live ≡ set before.live at false → length fewer ≡ length occurs
-    → ((m k : ℕ) → k ≢ at → Contains (get_or occurs m []) k → Contains (get_or fewer m []) k)
-    → IsTended vars before lits occurs front → IsTended vars after lits fewer front
-tended_forget vars before after lits occurs fewer front at clauses live wide others h = record {
-  listed = record {
-    wide = let w = h.listed.wide in omega (arith, w, wide);
-    all = λ k m clause there has.
-        let old = there_before before after at k clause clauses live there in
-        others m k old.0 (h.listed.all k m clause old.1 has);
-  };
+pub tended_forget : (vars : ℕ) (before after : Stored) (lits : List ℕ) (a b : Watching) (front : Front) (at : ℕ)
+    → after.clauses ≡ before.clauses → after.live ≡ set before.live at false → IsKeptBut at a b
+    → IsTended vars before lits a front → IsTended vars after lits b front
+tended_forget vars before after lits a b front at clauses live but h = record {
+  wide = omega (arith, h.wide, but.width);
+  long = omega (arith, h.long, but.long, ap length clauses);
+  paired = λ k clause there two.
+      let old = there_before before after at k clause clauses live there in
+      paired_but at a b k clause but old.0 (h.paired k clause old.1 two);
   front_is =
-      front_fewer vars before after lits front (λ k clause there.
-      let old = there_before before after at k clause clauses live there in old.1) h.front_is;
+      front_fewer vars before after a b lits front at but (λ k clause there. there_before before after at k clause clauses live there)
+      h.front_is;
 }
 
--- ---- a slot is listed and noted
-
-pub listed_more : (vars : ℕ) (store : Stored) (occurs more : List (List ℕ)) → length more ≡ length occurs
-    → ((m k : ℕ) → Contains (get_or occurs m []) k → Contains (get_or more m []) k) → IsListed vars store occurs
-    → IsListed vars store more
-listed_more vars store occurs more wide kept h = record {
-  wide = let w = h.wide in omega (arith, w, wide);
-  all = λ k m clause there has. kept m k (h.all k m clause there has);
-}
+-- ---- a slot is noted
 
 -- what stands behind n in a longer log stands there too
 drop_more : (log : List ℕ) (slot n k : ℕ) → Contains (drop n log) k → Contains (drop n (log ++ slot ∷ [])) k
@@ -100,10 +117,10 @@ drop_more log slot n k h =
     dropped_has (log ++ slot ∷ []) n r.0 k r.1 (let w = length_push log slot in omega (arith, r.2, w))
     (get_or_append_left log (slot ∷ []) k r.0 r.2 ∙ r.3)
 
-pub front_noted : (vars : ℕ) (store : Stored) (lits : List ℕ) (a b : Front) (slot : ℕ) → b.marks.items ≡ a.marks.items
+pub front_noted : (vars : ℕ) (store : Stored) (w : Watching) (lits : List ℕ) (a b : Front) (slot : ℕ) → b.marks.items ≡ a.marks.items
     → b.log.items ≡ a.log.items ++ slot ∷ [] → b.head ≡ a.head → b.seen ≡ a.seen → b.dirty ≡ a.dirty
-    → IsFront vars store lits a → IsFront vars store lits b
-front_noted vars store lits a b slot marks log head seen dirty h =
+    → IsFront vars store w lits a → IsFront vars store w lits b
+front_noted vars store w lits a b slot marks log head seen dirty h =
     let more : (n k : ℕ) → Contains (drop n a.log.items) k → Contains (drop n b.log.items) k =
     λ n k has.
     let P : List ℕ → Type 0 = λ v. Contains (drop n v) k in subst P (sym log) (drop_more a.log.items slot n k has) in
@@ -114,15 +131,15 @@ front_noted vars store lits a b slot marks log head seen dirty h =
           record {
             within = old.within;
             known = let o = old.known in omega (arith, o, ap length log, length_push a.log.items slot);
-            still = λ k clause there off. old.still k clause there (λ has. off (more n k has));
+            safe = λ k clause there off. old.safe k clause there (λ has. off (more n k has));
           };
       low = λ f. let l = h.low (sym dirty ∙ f) in omega (arith, l, head);
       read = λ f. let r = h.read (sym dirty ∙ f) in omega (arith, r, seen, ap length log, length_push a.log.items slot);
-      fine = λ f k clause there off.
-          let P : ℕ → Type 0 = λ n. IsFine lits n clause in
+      safe = λ f k clause there off.
+          let P : ℕ → Type 0 = λ n. IsSafe w lits (take n lits) k clause in
           let Q : ℕ → Type 0 = λ n. Contains (drop n b.log.items) k → ⊥ in
           subst P (sym head)
-          (h.fine (sym dirty ∙ f) k clause there (λ has. let o = subst Q seen off in o (more a.seen k has)));
+          (h.safe (sym dirty ∙ f) k clause there (λ has. let o = subst Q seen off in o (more a.seen k has)));
     }
 
 -- ---- a clause takes its slot
@@ -169,42 +186,73 @@ there_put before after clause tag at k other wide put there off =
       is = slot_before before.clauses at clause k other w off (sym (ap (λ v. slice_get v k) put.clauses) ∙ there.is);
     }
 
-pub tended_put : (vars : ℕ) (before after : Stored) (lits : List ℕ) (occurs more : List (List ℕ)) (a b : Front)
+-- the watches of one slot changed, of which nothing is known
+front_but : (vars : ℕ) (store : Stored) (a b : Watching) (lits : List ℕ) (front : Front) (at : ℕ) → IsKeptBut at a b
+    → ((clause : List ℕ) → IsThere store at clause → ⊥) → IsFront vars store a lits front → IsFront vars store b lits front
+front_but vars store a b lits front at but free h =
+    front_fewer vars store store a b lits front at but
+    (λ k clause there.
+    let off : k ≢ at = λ same. let P : ℕ → Type 0 = λ n. IsThere store n clause in free clause (subst P same there) in (off, there)) h
+
+pub tended_but : (vars : ℕ) (store : Stored) (lits : List ℕ) (a b : Watching) (x y : Front) (at : ℕ) → IsKeptBut at a b
+    → bit store.live at ≡ false → IsFront vars store a lits y → IsTended vars store lits a x → IsTended vars store lits b y
+tended_but vars store lits a b x y at but free front h =
+    let off : (clause : List ℕ) → IsThere store at clause → ⊥ = λ clause there. both_ways (bit store.live at) free there.live in
+    record {
+      wide = omega (arith, h.wide, but.width);
+      long = omega (arith, h.long, but.long);
+      paired = λ k clause there two.
+          let apart : k ≢ at = λ same. let P : ℕ → Type 0 = λ n. IsThere store n clause in off clause (subst P same there) in
+          paired_but at a b k clause but apart (h.paired k clause there two);
+      front_is = front_but vars store a b lits y at but off front;
+    }
+
+length_put : {X : Type 0} (xs : List X) (k : ℕ) (x : X) (n : ℕ) → length xs ≤ n → k < n → length (put_at xs k x) ≤ n
+length_put {X} xs k x n least less = by (nat_lt k (length xs)) refl
+  where
+    by : (t : Bool) → nat_lt k (length xs) ≡ t → length (cond t (set xs k x) (xs ++ x ∷ [])) ≤ n
+    by true _ = omega (arith, length-set xs k x, least)
+    by false past =
+        let end : length xs ≤ k = grind (arith, nat_tests) in
+        omega (arith, length_push xs x, end, less)
+
+pub tended_put : (vars : ℕ) (before after : Stored) (lits : List ℕ) (a b : Watching) (x y : Front)
     (clause : List ℕ) (tag : Tag) (at : ℕ) → length before.live ≡ length before.clauses → IsPut before clause tag after at
-    → length more ≡ length occurs → ((m k : ℕ) → Contains (get_or occurs m []) k → Contains (get_or more m []) k)
-    → ((m : ℕ) → Contains clause m → Contains (get_or more m []) at) → b.marks.items ≡ a.marks.items
-    → b.log.items ≡ a.log.items ++ at ∷ [] → b.head ≡ a.head → b.seen ≡ a.seen → b.dirty ≡ a.dirty
-    → IsTended vars before lits occurs a → IsTended vars after lits more b
-tended_put vars before after lits occurs more a b clause tag at wide put width kept has marks log head seen dirty h =
-    let front = front_noted vars before lits a b at marks log head seen dirty h.front_is in
-    let noted : (n : ℕ) → n ≤ length a.log.items → Contains (drop n b.log.items) at =
+    → IsKeptBut at a b → at < length b.pairs → (2 ≤ length clause → IsPaired b at clause) → y.marks.items ≡ x.marks.items
+    → y.log.items ≡ x.log.items ++ at ∷ [] → y.head ≡ x.head → y.seen ≡ x.seen → y.dirty ≡ x.dirty
+    → IsTended vars before lits a x → IsTended vars after lits b y
+tended_put vars before after lits a b x y clause tag at wide put but long paired marks log head seen dirty h =
+    let free : (c : List ℕ) → IsThere before at c → ⊥ = λ c there. both_ways (bit before.live at) put.free there.live in
+    let front = front_noted vars before b lits x y at marks log head seen dirty (front_but vars before a b lits x at but free h.front_is) in
+    let noted : (n : ℕ) → n ≤ length x.log.items → Contains (drop n y.log.items) at =
     λ n low.
     let P : List ℕ → Type 0 = λ v. Contains (drop n v) at in
-    let w = length_push a.log.items at in
-    subst P (sym log) (dropped_has (a.log.items ++ at ∷ []) n (length a.log.items) at low (omega (arith, w))
-    (get_or_push a.log.items at at (length a.log.items) refl)) in
-    let old : (n k : ℕ) (other : List ℕ) → n ≤ length a.log.items → IsThere after k other
-    → (Contains (drop n b.log.items) k → ⊥) → IsThere before k other =
+    let w = length_push x.log.items at in
+    subst P (sym log) (dropped_has (x.log.items ++ at ∷ []) n (length x.log.items) at low (omega (arith, w))
+    (get_or_push x.log.items at at (length x.log.items) refl)) in
+    let old : (n k : ℕ) (other : List ℕ) → n ≤ length x.log.items → IsThere after k other
+    → (Contains (drop n y.log.items) k → ⊥) → IsThere before k other =
     λ n k other low there off.
     there_put before after clause tag at k other wide put there
-    (λ same. let P : ℕ → Type 0 = Contains (drop n b.log.items) in off (subst P (sym same) (noted n low))) in
+    (λ same. let P : ℕ → Type 0 = Contains (drop n y.log.items) in off (subst P (sym same) (noted n low))) in
     record {
-      listed = record {
-        wide = let w = h.listed.wide in omega (arith, w, width);
-        all = λ k m other there holds.
-            elim (eqb_tells k at) [
-              | inl same ↦
-                  let P : ℕ → Type 0 = λ n. slice_get after.clauses n ≡ Some other in
-                  let is : other ≡ clause =
-                  same_Some other clause (sym (subst P same.1 there.is) ∙ ap (λ v. slice_get v at) put.clauses
-                  ∙ put_here before.clauses at clause put.within) in
-                  let Q : List ℕ → Type 0 = λ v. Contains v m in
-                  let R : ℕ → Type 0 = Contains (get_or more m []) in
-                  subst R (sym same.1) (has m (subst Q is holds))
-              | inr other_slot ↦
-                  kept m k (h.listed.all k m other (there_put before after clause tag at k other wide put there other_slot.1) holds)
-            ];
-      };
+      wide = omega (arith, h.wide, but.width);
+      long =
+          let P : List (List ℕ) → Type 0 = λ v. length v ≤ length b.pairs in
+          subst P (sym put.clauses) (length_put before.clauses at clause (length b.pairs) (omega (arith, h.long, but.long)) long);
+      paired = λ k other there two.
+          elim (eqb_tells k at) [
+            | inl same ↦
+                let P : ℕ → Type 0 = λ n. slice_get after.clauses n ≡ Some other in
+                let is : other ≡ clause =
+                same_Some other clause (sym (subst P same.1 there.is) ∙ ap (λ v. slice_get v at) put.clauses
+                ∙ put_here before.clauses at clause put.within) in
+                let Q : ℕ → Type 0 = λ n. IsPaired b n other in
+                let R : List ℕ → Type 0 = λ v. IsPaired b at v in
+                subst Q (sym same.1) (subst R (sym is) (paired (omega (arith, two, ap length is))))
+            | inr off ↦
+                paired_but at a b k other but off.1 (h.paired k other (there_put before after clause tag at k other wide put there off.1) two)
+          ];
       front_is = record {
         wide = front.wide;
         marked = λ d n f.
@@ -213,60 +261,93 @@ tended_put vars before after lits occurs more a b clause tag at wide put width k
             record {
               within = mark.within;
               known = mark.known;
-              still = λ k other there off. mark.still k other (old n k other first.known there off) off;
+              safe = λ k other there off. mark.safe k other (old n k other first.known there off) off;
             };
         low = front.low;
         read = front.read;
-        fine = λ f k other there off.
+        safe = λ f k other there off.
             let low = h.front_is.read (sym dirty ∙ f) in
-            front.fine f k other (old b.seen k other (omega (arith, low, seen)) there off) off;
+            front.safe f k other (old y.seen k other (omega (arith, low, seen)) there off) off;
       };
     }
 
 -- ---- one more variable
 
-pub listed_wider : (vars wider : ℕ) (store : Stored) (occurs more : List (List ℕ)) → 2 * wider ≤ length more
-    → ((m k : ℕ) → Contains (get_or occurs m []) k → Contains (get_or more m []) k) → IsListed vars store occurs
-    → IsListed wider store more
-listed_wider vars wider store occurs more wide kept h = record {
-  wide = wide;
-  all = λ k m clause there has. kept m k (h.all k m clause there has);
-}
-
 -- a list more at the end
-pub list_kept : (occurs : List (List ℕ)) (m k : ℕ) → Contains (get_or occurs m []) k
-    → Contains (get_or (occurs ++ [] ∷ []) m []) k
-list_kept occurs m k has =
-    elim (cases_lt m (length occurs)) [
+list_kept : (lists : List (List ℕ)) (m k : ℕ) → Contains (get_or lists m []) k
+    → Contains (get_or (lists ++ [] ∷ []) m []) k
+list_kept lists m k has =
+    elim (cases_lt m (length lists)) [
       | inl less ↦
           let P : List ℕ → Type 0 = λ v. Contains v k in
-          subst P (sym (get_or_append_left occurs ([] ∷ []) [] m less)) has
+          subst P (sym (get_or_append_left lists ([] ∷ []) [] m less)) has
       | inr past ↦
           let P : List ℕ → Type 0 = λ v. Contains v k in
-          absurd (Contains-none k (subst P (get_or_past occurs m [] past) has))
+          absurd (Contains-none k (subst P (get_or_past lists m [] past) has))
     ]
 
-pub lists_kept : (occurs more : List (List ℕ)) → more ≡ occurs ++ [] ∷ [] → (m k : ℕ) → Contains (get_or occurs m []) k
-    → Contains (get_or more m []) k
-lists_kept occurs more e m k has =
-    let P : List (List ℕ) → Type 0 = λ v. Contains (get_or v m []) k in subst P (sym e) (list_kept occurs m k has)
-
-pub tended_wider : (vars wider : ℕ) (store : Stored) (lits : List ℕ) (occurs more : List (List ℕ)) (a b : Front)
-    → 2 * wider ≤ length more → ((m k : ℕ) → Contains (get_or occurs m []) k → Contains (get_or more m []) k)
-    → IsFront wider store lits b → IsTended vars store lits occurs a → IsTended wider store lits more b
-tended_wider vars wider store lits occurs more a b wide kept front h = record {
-  listed = listed_wider vars wider store occurs more wide kept h.listed;
-  front_is = front;
+paired_wider : (w : Watching) (k : ℕ) (clause : List ℕ) → IsPaired w k clause
+    → IsPaired (record { lists = w.lists ++ [] ∷ []; pairs = w.pairs }) k clause
+paired_wider w k clause h = record {
+  pair = h.pair;
+  is = h.is;
+  one = h.one;
+  two = h.two;
+  apart = h.apart;
+  in_one = list_kept w.lists h.pair.one k h.in_one;
+  in_two = list_kept w.lists h.pair.two k h.in_two;
 }
 
-pub tended_new : (vars : ℕ) (store : Stored) (lits : List ℕ) (occurs : List (List ℕ)) (front : Front) → store.live ≡ []
-    → 2 * vars ≤ length occurs → IsFront vars store lits front → IsTended vars store lits occurs front
-tended_new vars store lits occurs front none wide h = record {
-  listed = record {
-    wide = wide;
-    all = λ k m clause there has.
-        let P : List Bool → Type 0 = λ v. bit v k ≡ true in
-        let on : bit [] k ≡ true = subst P none there.live in cc;
-  };
+safe_wider : (a b : Watching) (lits known : List ℕ) (k : ℕ) (clause : List ℕ)
+    → b ≡ record { lists = a.lists ++ [] ∷ []; pairs = a.pairs } → IsSafe a lits known k clause → IsSafe b lits known k clause
+unfolding paired_wider
+safe_wider a b lits known k clause e (inl h) = inl h
+safe_wider a b lits known k clause e (inr h) =
+    let P : Watching → Type 0 = λ v. IsSafe v lits known k clause in
+    subst P (sym e) (inr (record {
+      paired = paired_wider a k clause h.paired;
+      one_open = h.one_open;
+      two_open = h.two_open;
+    }))
+
+-- one list more
+pub tended_listed : (vars : ℕ) (store : Stored) (lits : List ℕ) (a b : Watching) (front : Front)
+    → b ≡ record { lists = a.lists ++ [] ∷ []; pairs = a.pairs } → IsTended vars store lits a front → IsTended vars store lits b front
+tended_listed vars store lits a b front e h =
+    let none : List ℕ = [] in
+    record {
+      wide = omega (arith, h.wide, ap (λ (v : Watching). length v.lists) e, length_push a.lists none);
+      long = omega (arith, h.long, ap (λ (v : Watching). length v.pairs) e);
+      paired = λ k clause there two.
+          let P : Watching → Type 0 = λ v. IsPaired v k clause in
+          subst P (sym e) (paired_wider a k clause (h.paired k clause there two));
+      front_is = record {
+        wide = h.front_is.wide;
+        marked = λ d n f.
+            let old = h.front_is.marked d n f in
+            record {
+              within = old.within;
+              known = old.known;
+              safe = λ k clause there off. safe_wider a b (take d lits) (take d lits) k clause e (old.safe k clause there off);
+            };
+        low = h.front_is.low;
+        read = h.front_is.read;
+        safe = λ f k clause there off. safe_wider a b lits (take front.head lits) k clause e (h.front_is.safe f k clause there off);
+      };
+    }
+
+pub tended_wider : (vars wider : ℕ) (store : Stored) (lits : List ℕ) (w : Watching) (x y : Front) → 2 * wider ≤ length w.lists
+    → IsFront wider store w lits y → IsTended vars store lits w x → IsTended wider store lits w y
+tended_wider vars wider store lits w x y wide front h =
+    record { wide = wide; long = h.long; paired = h.paired; front_is = front }
+
+pub tended_new : (vars : ℕ) (store : Stored) (lits : List ℕ) (w : Watching) (front : Front) → store.live ≡ [] → store.clauses ≡ []
+    → 2 * vars ≤ length w.lists → IsFront vars store w lits front → IsTended vars store lits w front
+tended_new vars store lits w front none clauses wide h = record {
+  wide = wide;
+  long = omega (arith, ap length clauses);
+  paired = λ k clause there two.
+      let P : List Bool → Type 0 = λ v. bit v k ≡ true in
+      let on : bit [] k ≡ true = subst P none there.live in cc;
   front_is = h;
 }

@@ -2,7 +2,9 @@
 
 ghost use Rattle.std.specs.Prelude.{◌≡◌, ℕ, ◌+◌, ◌<◌, ◌≤◌, ◌^◌, ◌∷◌, ◌++◌, [], List, None, Some, false, true, length, take, drop, slice_get, IfOk, IfSome, OnOk, OnErr};
 ghost use Rattle.sat_watch.specs.Stores.{Stored, IsThere};
-ghost use Rattle.sat_watch.specs.Fronts.{IsFront, IsStillUnder};
+ghost use Rattle.sat_watch.specs.Watching.{Watching};
+ghost use Rattle.sat_watch.specs.Visits.{IsSafe};
+ghost use Rattle.sat_watch.specs.Fronts.{IsFront};
 
 use ja_base::Memory;
 use std::alloc::Global;
@@ -34,8 +36,8 @@ fn unmarked(alloc: Global, vars: u32) -> Result<Vec<Option<usize>>, Memory>
 impl Front {
     /// All is to be looked at.
     pub(crate) fn new(alloc: Global, vars: u32) -> Result<Front, Memory>
-        ensures { IfOk result (λ front. (store : Stored) (lits : List ℕ)
-            → IsFront vars store lits front) }
+        ensures { IfOk result (λ front. (store : Stored) (w : Watching) (lits : List ℕ)
+            → IsFront vars store w lits front) }
     {
         let marks = unmarked(alloc, vars)?;
         Ok(Front {
@@ -49,10 +51,11 @@ impl Front {
 
     /// One more variable.
     pub(crate) fn fresh(&mut self) -> Result<(), Memory>
-        ensures ok { OnOk result ((vars wider : ℕ) (store : Stored) (lits : List ℕ) → wider ≤ vars + 1
-            → IsFront vars store lits self.old → IsFront wider store lits self.new) }
-        ensures err { OnErr result ((vars : ℕ) (store : Stored) (lits : List ℕ)
-            → IsFront vars store lits self.old → IsFront vars store lits self.new) }
+        ensures ok { OnOk result ((vars wider : ℕ) (store : Stored) (w : Watching)
+            (lits : List ℕ) → wider ≤ vars + 1
+            → IsFront vars store w lits self.old → IsFront wider store w lits self.new) }
+        ensures err { OnErr result ((vars : ℕ) (store : Stored) (w : Watching) (lits : List ℕ)
+            → IsFront vars store w lits self.old → IsFront vars store w lits self.new) }
     {
         self.marks.push(None)?;
         Ok(())
@@ -84,9 +87,10 @@ impl Front {
     /// No length is marked, and the log is empty.
     fn clear(&mut self)
         ensures width { length self.new.marks.items ≡ length self.old.marks.items }
-        ensures front { (vars : ℕ) (store : Stored) (lits : List ℕ) → IsFront vars store lits self.old
-            → ((k : ℕ) (clause : List ℕ) → IsThere store k clause → IsStillUnder lits clause)
-            → IsFront vars store lits self.new }
+        ensures front { (vars : ℕ) (store : Stored) (w : Watching) (lits : List ℕ)
+            → IsFront vars store w lits self.old
+            → ((k : ℕ) (clause : List ℕ) → IsThere store k clause → IsSafe w lits lits k clause)
+            → IsFront vars store w lits self.new }
     {
         for at in 0..self.marks.len() {
             self.marks[at] = None;
@@ -98,9 +102,11 @@ impl Front {
     /// Propagation ended quiet. A log that is longer than the marks is begun anew.
     pub(crate) fn settle(&mut self, len: u32)
         requires { len < length self.old.marks.items }
-        ensures { (vars : ℕ) (store : Stored) (lits : List ℕ) → IsFront vars store lits self.old
-            → len ≡ length lits → ((k : ℕ) (clause : List ℕ) → IsThere store k clause → IsStillUnder lits clause)
-            → IsFront vars store lits self.new }
+        ensures { (vars : ℕ) (store : Stored) (w : Watching) (lits : List ℕ)
+            → IsFront vars store w lits self.old
+            → len ≡ length lits
+            → ((k : ℕ) (clause : List ℕ) → IsThere store k clause → IsSafe w lits lits k clause)
+            → IsFront vars store w lits self.new }
     {
         if self.log.len() <= self.marks.len() {
             self.mark(len);
@@ -112,9 +118,11 @@ impl Front {
 
     fn mark(&mut self, len: u32)
         requires { len < length self.old.marks.items }
-        ensures { (vars : ℕ) (store : Stored) (lits : List ℕ) → IsFront vars store lits self.old
-            → len ≡ length lits → ((k : ℕ) (clause : List ℕ) → IsThere store k clause → IsStillUnder lits clause)
-            → IsFront vars store lits self.new }
+        ensures { (vars : ℕ) (store : Stored) (w : Watching) (lits : List ℕ)
+            → IsFront vars store w lits self.old
+            → len ≡ length lits
+            → ((k : ℕ) (clause : List ℕ) → IsThere store k clause → IsSafe w lits lits k clause)
+            → IsFront vars store w lits self.new }
     {
         self.marks[len as usize] = Some(self.log.len());
     }
@@ -139,7 +147,8 @@ impl Front {
         ensures width { length self.new.marks.items ≡ length self.old.marks.items }
         ensures fewer { (d n : ℕ) → slice_get self.new.marks.items d ≡ Some (Some n)
             → slice_get self.old.marks.items d ≡ Some (Some n) }
-        ensures gone { (d n : ℕ) → to < d → d ≤ len → slice_get self.new.marks.items d ≡ Some (Some n) → ⊥ }
+        ensures gone { (d n : ℕ) → to < d → d ≤ len
+            → slice_get self.new.marks.items d ≡ Some (Some n) → ⊥ }
         ensures log { self.new.log.items ≡ self.old.log.items }
         ensures head { self.new.head ≡ self.old.head }
         ensures seen { self.new.seen ≡ self.old.seen }
@@ -154,8 +163,9 @@ impl Front {
     pub(crate) fn retreat(&mut self, to: u32, len: u32)
         requires to { to ≤ len }
         requires len { len < length self.old.marks.items }
-        ensures { (vars : ℕ) (store : Stored) (lits : List ℕ) → IsFront vars store lits self.old
-            → len ≡ length lits → IsFront vars store (take to lits) self.new }
+        ensures { (vars : ℕ) (store : Stored) (w : Watching) (lits : List ℕ)
+            → IsFront vars store w lits self.old
+            → len ≡ length lits → IsFront vars store w (take to lits) self.new }
     {
         self.unmark(to, len);
         match self.last_mark(to) {

@@ -2,15 +2,20 @@
 #![tactic(auto)]
 
 mod front;
-mod occurs;
+mod look;
+mod pair;
 mod propagate;
+mod saturate;
 mod step;
 mod store;
 mod sweep;
 mod tag;
 #[cfg(test)]
 mod tests;
+mod visit;
 mod watch;
+mod watch_list;
+mod watches;
 
 pub use step::Step;
 pub use tag::Tag;

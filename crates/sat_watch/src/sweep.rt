@@ -1,108 +1,119 @@
-//! Clauses that are looked at.
+//! Passes over clauses.
 
-ghost use Rattle.std.specs.Prelude.{◌≡◌, ◌≢◌, ℕ, ◌<◌, List, All, Contains, length, IfSome, IfNone};
-ghost use Rattle.std.specs.Bool.{OnTrue, OnFalse};
+ghost use Rattle.std.specs.Prelude.{◌≡◌, ℕ, ◌*◌, ◌<◌, ◌≤◌, true, List, All, Contains, length};
+ghost use Rattle.ja_base.specs.Literals.{bit, negated};
 ghost use Rattle.ja_base.specs.Clauses.{IsBelow};
-ghost use Rattle.refute_check.specs.declared.found.Found.TheVariants.{False};
 ghost use Rattle.sat_plain.specs.Trails.{IsAssigned, lits_of};
 ghost use Rattle.sat_watch.specs.Stores.{IsHeld, IsThere, over};
-ghost use Rattle.sat_watch.specs.Steps.{IsForcedOn, IsConflict, IsVisited};
-ghost use Rattle.sat_watch.specs.Fronts.{IsFine, IsStillUnder};
+ghost use Rattle.sat_watch.specs.Steps.{IsForcedOn};
+ghost use Rattle.sat_watch.specs.Watching.{ArePaired, Keeps, slots_at};
+ghost use Rattle.sat_watch.specs.Visits.{AreSwept, IsBased, IsSafe};
+ghost use Rattle.sat_watch.specs.Passes.{IsSwept};
 
+use crate::look::look;
 use crate::store::Store;
+use crate::visit::{Visit, visit_slot};
+use crate::watches::Watches;
 use ja_base::Lit;
-use refute_check::{Found, scan};
 use sat_plain::Trail;
 
-/// Makes the literal true that the clause of this slot forces, if it is there and forces one.
-fn visit(trail: &mut Trail, store: &Store, at: u32) -> Found
-    requires at { at < length store.now.clauses }
+/// What comes of a pass.
+#[derive(Clone, Copy, Debug, PartialEq, Eq)]
+pub(crate) enum Swept {
+    Done,
+    /// The clause of this slot is false.
+    False(u32),
+    /// It is not known whether one is false.
+    Unsettled,
+}
+
+/// Visits the clauses that a literal watches, which is false.
+pub(crate) fn sweep(trail: &mut Trail, store: &Store, watches: &mut Watches, lit: Lit) -> Swept
+    requires is { IsAssigned trail.old }
     requires below { All (IsBelow trail.old.vars) store.now.clauses }
     requires held { IsHeld (over trail.old store.now) }
+    requires wide { 2 * trail.old.vars ≤ length watches.old.lists }
+    requires long { length store.now.clauses ≤ length watches.old.pairs }
+    requires within { lit < length watches.old.lists }
+    requires wrong { bit trail.old.values (negated lit) ≡ true }
+    requires based { (k : ℕ) → IsBased store.now (lits_of trail.old.places) watches.old k }
     ensures vars { trail.new.vars ≡ trail.old.vars }
-    ensures step { IsVisited trail.old (over trail.new store.now) at result }
     ensures grown { IsForcedOn trail.old.places trail.new.places }
     ensures held { IsHeld (over trail.new store.now) }
     ensures is { IsAssigned trail.new }
-    ensures still { (clause : List ℕ) → IsThere store.now at clause → result ≢ False
-        → IsStillUnder (lits_of trail.new.places) clause }
+    ensures keeps { Keeps store.now (lits_of trail.old.places) watches.old watches.new }
+    ensures swept { IsSwept store.now trail.new (AreSwept store.now (lits_of trail.old.places)
+        watches.old (lits_of trail.new.places) watches.new lit
+        (length (slots_at watches.new lit))) result }
 {
-    let values = trail.values();
-    if !store.is_live(at) {
-        return Found::Other;
-    }
-    match scan(values, store.clause(at).lits()) {
-        Found::Forces(lit) => {
-            trail.push(Lit(lit), Some(at));
-            Found::Forces(lit)
+    let mut at = 0;
+    while at < watches.count(lit) {
+        let slot = watches.slot(lit, at);
+        match visit_slot(trail, store, watches, lit, at, slot) {
+            Visit::Safe => at += 1,
+            Visit::Passed => {}
+            Visit::False => return Swept::False(slot),
+            Visit::Unsettled => return Swept::Unsettled,
         }
-        Found::False => Found::False,
-        Found::Other => Found::Other,
     }
+    Swept::Done
 }
 
-/// Whether the clause of this slot, if one is there, is false. What it forces becomes true.
-fn examine(trail: &mut Trail, store: &Store, at: u32) -> bool
+/// Looks at the clauses of these slots.
+pub(crate) fn look_at_each(
+    trail: &mut Trail,
+    store: &Store,
+    watches: &mut Watches,
+    slots: &[u32],
+) -> Swept
+    requires is { IsAssigned trail.old }
     requires below { All (IsBelow trail.old.vars) store.now.clauses }
     requires held { IsHeld (over trail.old store.now) }
+    requires wide { 2 * trail.old.vars ≤ length watches.old.lists }
+    requires long { length store.now.clauses ≤ length watches.old.pairs }
+    requires paired { ArePaired store.now watches.old }
     ensures vars { trail.new.vars ≡ trail.old.vars }
     ensures grown { IsForcedOn trail.old.places trail.new.places }
     ensures held { IsHeld (over trail.new store.now) }
     ensures is { IsAssigned trail.new }
-    ensures conflict { OnTrue result (IsConflict (over trail.new store.now) at) }
-    ensures still { OnFalse result ((clause : List ℕ) → IsThere store.now at clause
-        → IsStillUnder (lits_of trail.new.places) clause) }
+    ensures keeps { Keeps store.now (lits_of trail.old.places) watches.old watches.new }
+    ensures swept { IsSwept store.now trail.new ((k : ℕ) (clause : List ℕ) → Contains slots.now k
+        → IsThere store.now k clause → IsSafe watches.new (lits_of trail.new.places)
+        (lits_of trail.old.places) k clause) result }
 {
-    if at >= store.len() {
-        let _len = trail.len();
-        return false;
-    }
-    match visit(trail, store, at) {
-        Found::False => true,
-        Found::Forces(_) => false,
-        Found::Other => false,
-    }
-}
-
-/// Looks at the clauses of these slots, up to one that is false.
-pub(crate) fn sweep(trail: &mut Trail, store: &Store, slots: &[u32]) -> Option<u32>
-    requires below { All (IsBelow trail.old.vars) store.now.clauses }
-    requires held { IsHeld (over trail.old store.now) }
-    ensures vars { trail.new.vars ≡ trail.old.vars }
-    ensures grown { IsForcedOn trail.old.places trail.new.places }
-    ensures held { IsHeld (over trail.new store.now) }
-    ensures is { IsAssigned trail.new }
-    ensures conflict { IfSome result (IsConflict (over trail.new store.now)) }
-    ensures fine { IfNone result ((k : ℕ) (clause : List ℕ) → Contains slots.now k
-        → IsThere store.now k clause
-        → IsFine (lits_of trail.new.places) (length trail.old.places) clause) }
-{
-    let _len = trail.len();
     for slot in slots {
-        if examine(trail, store, *slot) {
-            return Some(*slot);
+        match look(trail, store, watches, *slot) {
+            Visit::Safe => {}
+            Visit::False => return Swept::False(*slot),
+            Visit::Passed | Visit::Unsettled => return Swept::Unsettled,
         }
     }
-    None
+    Swept::Done
 }
 
-/// Looks at all clauses, up to one that is false.
-pub(crate) fn sweep_all(trail: &mut Trail, store: &Store) -> Option<u32>
+/// Looks at all clauses.
+pub(crate) fn look_at_all(trail: &mut Trail, store: &Store, watches: &mut Watches) -> Swept
+    requires is { IsAssigned trail.old }
     requires below { All (IsBelow trail.old.vars) store.now.clauses }
     requires held { IsHeld (over trail.old store.now) }
+    requires wide { 2 * trail.old.vars ≤ length watches.old.lists }
+    requires long { length store.now.clauses ≤ length watches.old.pairs }
+    requires paired { ArePaired store.now watches.old }
     ensures vars { trail.new.vars ≡ trail.old.vars }
     ensures grown { IsForcedOn trail.old.places trail.new.places }
     ensures held { IsHeld (over trail.new store.now) }
     ensures is { IsAssigned trail.new }
-    ensures conflict { IfSome result (IsConflict (over trail.new store.now)) }
-    ensures fine { IfNone result ((k : ℕ) (clause : List ℕ) → IsThere store.now k clause
-        → IsFine (lits_of trail.new.places) (length trail.old.places) clause) }
+    ensures keeps { Keeps store.now (lits_of trail.old.places) watches.old watches.new }
+    ensures swept { IsSwept store.now trail.new ((k : ℕ) (clause : List ℕ)
+        → IsThere store.now k clause → IsSafe watches.new (lits_of trail.new.places)
+        (lits_of trail.old.places) k clause) result }
 {
-    let _len = trail.len();
     for slot in 0..store.len() {
-        if examine(trail, store, slot) {
-            return Some(slot);
+        match look(trail, store, watches, slot) {
+            Visit::Safe => {}
+            Visit::False => return Swept::False(slot),
+            Visit::Passed | Visit::Unsettled => return Swept::Unsettled,
         }
     }
-    None
+    Swept::Done
 }

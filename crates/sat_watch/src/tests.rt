@@ -118,3 +118,54 @@ fn propagates_to_the_end(rt: HostRuntime) -> Result<(), Fail> {
     assert!(rt; has_trail(&watch, &[(Lit(5), None), (Lit(6), Some(2))]));
     Ok(())
 }
+
+/// Keeps the first places, so many, and decides; then whether the trail is so long, and ends so.
+fn ends(watch: &mut Watch, to: u32, lit: Lit, len: u32, last: Lit, reason: Option<u32>) -> bool {
+    if to > watch.trail().len() {
+        return false;
+    }
+    watch.undo(to);
+    if decide(watch, lit) != Some(Step::Quiet) || watch.trail().len() != len || len == 0 {
+        return false;
+    }
+    let place = watch.trail().place(len - 1);
+    place.lit == last && place.reason == reason
+}
+
+// A clause of five literals, of which all but one become false in several orders, or one is true. A second one comes when two of
+// its three literals are false.
+#[test]
+fn watches_by_other_literals(rt: HostRuntime) -> Result<(), Fail> {
+    let alloc = rt.alloc();
+    let mut watch = Watch::new(alloc, 5)?;
+    let long: [Lit; 5] = [Lit(0), Lit(2), Lit(4), Lit(6), Lit(8)];
+    assert_eq!(rt; add(alloc, &mut watch, &long, 1)?, Some(0));
+    let rows: [(u32, Lit, u32, Lit, Option<u32>); 13] = [
+        (0, Lit(1), 1, Lit(1), None),
+        (1, Lit(3), 2, Lit(3), None),
+        (2, Lit(5), 3, Lit(5), None),
+        (3, Lit(7), 5, Lit(8), Some(0)),
+        (1, Lit(9), 2, Lit(9), None),
+        (2, Lit(3), 3, Lit(3), None),
+        (3, Lit(7), 5, Lit(4), Some(0)),
+        (0, Lit(8), 1, Lit(8), None),
+        (1, Lit(1), 2, Lit(1), None),
+        (2, Lit(3), 3, Lit(3), None),
+        (3, Lit(5), 4, Lit(5), None),
+        (4, Lit(7), 5, Lit(7), None),
+        (0, Lit(9), 1, Lit(9), None),
+    ];
+    for (to, lit, len, last, reason) in rows.into_iter() {
+        assert!(rt; ends(&mut watch, to, lit, len, last, reason));
+    }
+    assert!(rt; ends(&mut watch, 1, Lit(7), 2, Lit(7), None));
+    assert_eq!(rt;
+        add(alloc, &mut watch, &[Lit(2), Lit(6), Lit(8)], 2)?,
+        Some(1)
+    );
+    assert_eq!(rt; watch.propagate(), Step::Quiet);
+    assert!(rt; has_trail(&watch, &[(Lit(9), None), (Lit(7), None), (Lit(2), Some(1))]));
+    assert!(rt; ends(&mut watch, 0, Lit(3), 1, Lit(3), None));
+    assert!(rt; ends(&mut watch, 1, Lit(9), 3, Lit(6), Some(1)));
+    Ok(())
+}

@@ -9,11 +9,11 @@ ghost use Rattle.sat_watch.specs.Stores.{IsHeld, IsIdle, IsPut, value_of};
 ghost use Rattle.sat_watch.specs.Steps.{IsForcedOn, IsStep};
 
 use crate::front::Front;
-use crate::occurs::{Occurs, list_in, unlist};
 use crate::propagate::propagate;
 use crate::step::Step;
 use crate::store::Store;
 use crate::tag::Tag;
+use crate::watches::Watches;
 use ja_base::{Clause, Lit, Memory, Var};
 use sat_plain::Trail;
 use std::alloc::Global;
@@ -24,7 +24,7 @@ use std::marker::Model;
 pub struct Watch {
     trail: Trail,
     store: Store,
-    occurs: Occurs,
+    watches: Watches,
     front: Front,
 }
 
@@ -39,8 +39,9 @@ impl Model for Watch {
 
     ghost view = { λ a. over a.trail a.store };
 
-    ghost invariant = { λ a. All (IsBelow a.trail.vars) a.store.clauses × IsHeld (over a.trail a.store)
-        × IsTended a.trail.vars a.store (lits_of a.trail.places) a.occurs a.front };
+    ghost invariant = { λ a. All (IsBelow a.trail.vars) a.store.clauses
+        × IsHeld (over a.trail a.store)
+        × IsTended a.trail.vars a.store (lits_of a.trail.places) a.watches a.front };
 }
 
 impl Watch {
@@ -53,12 +54,12 @@ impl Watch {
             ≡ record { clauses = []; live = []; tags = [] }) }
     {
         let trail = Trail::new(alloc, vars)?;
-        let occurs = Occurs::new(alloc, vars)?;
+        let watches = Watches::new(alloc, vars)?;
         let front = Front::new(alloc, vars)?;
         Ok(Watch {
             trail,
             store: Store::new(alloc),
-            occurs,
+            watches,
             front,
         })
     }
@@ -73,8 +74,8 @@ impl Watch {
         ensures err { OnErr result (self.new ≡ self.old) }
     {
         self.front.fresh()?;
-        self.occurs.fresh()?;
-        self.occurs.fresh()?;
+        self.watches.fresh()?;
+        self.watches.fresh()?;
         let var = self.trail.fresh()?;
         Ok(var)
     }
@@ -87,7 +88,7 @@ impl Watch {
         ensures err { OnErr result (self.new ≡ self.old) }
     {
         let at = self.store.free_slot();
-        list_in(&mut self.occurs, clause.lits(), at)?;
+        self.watches.enter(at, clause.lits())?;
         self.front.note(at)?;
         self.store.put(at, clause, tag)?;
         Ok(at)
@@ -101,7 +102,7 @@ impl Watch {
         ensures store { self.new.store
             ≡ record self.old.store { live = slice_set self.old.store.live at false } }
     {
-        unlist(&mut self.occurs, self.store.clause(at).lits(), at);
+        self.watches.leave(at, self.store.clause(at).lits());
         self.store.forget(at);
     }
 
@@ -182,7 +183,12 @@ impl Watch {
         ensures step { IsStep self.new result }
     {
         self.trail.push(lit, None);
-        propagate(&mut self.trail, &self.store, &self.occurs, &mut self.front)
+        propagate(
+            &mut self.trail,
+            &self.store,
+            &mut self.watches,
+            &mut self.front,
+        )
     }
 
     /// The literal that the clause of this slot forces becomes true, and all that follows from it.
@@ -200,7 +206,12 @@ impl Watch {
         ensures step { IsStep self.new result }
     {
         self.trail.push(lit, Some(at));
-        propagate(&mut self.trail, &self.store, &self.occurs, &mut self.front)
+        propagate(
+            &mut self.trail,
+            &self.store,
+            &mut self.watches,
+            &mut self.front,
+        )
     }
 
     /// All that follows from what is true becomes true.
@@ -211,6 +222,11 @@ impl Watch {
         ensures is { IsAssigned self.new.trail }
         ensures step { IsStep self.new result }
     {
-        propagate(&mut self.trail, &self.store, &self.occurs, &mut self.front)
+        propagate(
+            &mut self.trail,
+            &self.store,
+            &mut self.watches,
+            &mut self.front,
+        )
     }
 }

@@ -6,7 +6,7 @@ use Rattle.sat_cdcl.specs.Files.{list_of}
 use Rattle.sat_cdcl.proofs.keep_sat.load.Goals as goal
 
 pub loop-number-preserved : goal.loop-number-preserved
-loop-number-preserved c =
+loop-number-preserved g c =
     let list : List (List ℕ) = list_of c.args.db.now in
     let added : List ℕ = c.args.added.now in
     let n : ℕ = c.loop-number.number-index in

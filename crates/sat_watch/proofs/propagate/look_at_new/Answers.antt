@@ -1,39 +1,56 @@
-use Rattle.std.proofs.Common.{◌≡◌, ℕ, List, length, drop, true, false, refl, inl, inr, sym, subst, ◌∙◌, ap, arith}
+use Rattle.std.proofs.Common.{ℕ, List, refl, sym, subst, arith}
 use Rattle.std.specs.List.{Contains}
 use Rattle.sat_plain.specs.declared.place.Place.{Place}
 use Rattle.sat_plain.specs.Trails.{lits_of}
 use Rattle.sat_plain.proofs.PlaceLemmas.{lits_length}
 use Rattle.sat_watch.specs.declared.front.Front.{Front}
-use Rattle.sat_watch.specs.Fronts.{IsFine}
-use Rattle.sat_watch.proofs.StillLemmas.{fine_lower}
-use Rattle.sat_watch.proofs.OccursLemmas.{is_in}
-use Rattle.sat_watch.proofs.FrontLemmas.{fine_grown, front_grown, front_known, longer_of}
+use Rattle.sat_watch.specs.Watching.{Watching}
+use Rattle.sat_watch.specs.Fronts.{IsTended}
+use Rattle.sat_watch.proofs.TendLemmas.{tended_grown}
+use Rattle.sat_watch.proofs.PassLemmas.{tended_new_looked}
 use Rattle.sat_watch.proofs.propagate.look_at_new.Goals as goal
 
-pub returns-in-Some-clause-front : goal.returns-in-Some-clause-front
-returns-in-Some-clause-front c =
-    front_grown c.args.trail.now.vars c.args.store.now c.args.trail.now.places c.sweep.new.trail.places c.args.front.now
-    c.sweep.ensures.grown c.requires.front
-
-pub returns-clause-front : goal.returns-clause-front
-returns-clause-front c =
-    let old : Front = c.args.front.now in
+pub returns-in-Done-clause-tended : goal.returns-in-Done-clause-tended
+returns-in-Done-clause-tended c =
+    let vars : ℕ = c.args.trail.now.vars in
     let before : List Place = c.args.trail.now.places in
-    let after : List Place = c.sweep.new.trail.places in
-    let new : Front =
-    record { marks = old.marks; log = old.log; head = old.head; seen = c.len-front.result; dirty = old.dirty } in
-    let low = c.requires.front.low c.requires.clean in
-    front_known c.args.trail.now.vars c.args.store.now (lits_of after) old new refl refl
-    (omega (arith, low, longer_of before after c.sweep.ensures.grown, lits_length after, lits_length before))
-    (omega (arith, c.len-front.ensures))
-    (λ k clause there _.
-    elim (is_in (drop old.seen old.log.items) k) [
-      | inl has ↦
-          let P : List ℕ → Type 0 = λ v. Contains v k in
-          fine_lower (lits_of after) (length before) old.head clause (omega (arith, low, lits_length before))
-          (c.in_default.ensures.fine k clause (subst P (sym c.unseen.ensures) has) there)
-      | inr off ↦
-          fine_grown before after old.head clause c.sweep.ensures.grown (omega (arith, low, lits_length before))
-          (c.requires.front.fine c.requires.clean k clause there off)
-    ])
-    (front_grown c.args.trail.now.vars c.args.store.now before after old c.sweep.ensures.grown c.requires.front)
+    let after : List Place = c.look_at_each.new.trail.places in
+    let old : Watching = c.args.watches.now in
+    let w : Watching = c.look_at_each.new.watches in
+    let a : Front = c.args.front.now in
+    let e = c.look_at_each.ensures in
+    let h : IsTended vars c.args.store.now (lits_of after) w a =
+    tended_grown vars c.args.store.now before after old w a e.grown e.keeps c.requires.tended in
+    let b : Front = record { marks = a.marks; log = a.log; head = a.head; seen = c.len-front.result; dirty = a.dirty } in
+    let low = c.requires.tended.front_is.low c.requires.clean in
+    tended_new_looked vars c.args.store.now before after w a b e.grown c.requires.clean (omega (arith, low, lits_length before))
+    refl refl refl (omega (arith, c.len-front.ensures))
+    (λ k clause has there.
+    let P : List ℕ → Type 0 = λ v. Contains v k in
+    c.in-Done.ensures.swept k clause (subst P (sym c.unseen.ensures) has) there) h
+
+pub returns-in-False-clause-tended : goal.returns-in-False-clause-tended
+returns-in-False-clause-tended c =
+    let vars : ℕ = c.args.trail.now.vars in
+    let before : List Place = c.args.trail.now.places in
+    let after : List Place = c.look_at_each.new.trail.places in
+    let old : Watching = c.args.watches.now in
+    let w : Watching = c.look_at_each.new.watches in
+    let a : Front = c.args.front.now in
+    let e = c.look_at_each.ensures in
+    let h : IsTended vars c.args.store.now (lits_of after) w a =
+    tended_grown vars c.args.store.now before after old w a e.grown e.keeps c.requires.tended in
+    h
+
+pub returns-in-Unsettled-clause-tended : goal.returns-in-Unsettled-clause-tended
+returns-in-Unsettled-clause-tended c =
+    let vars : ℕ = c.args.trail.now.vars in
+    let before : List Place = c.args.trail.now.places in
+    let after : List Place = c.look_at_each.new.trail.places in
+    let old : Watching = c.args.watches.now in
+    let w : Watching = c.look_at_each.new.watches in
+    let a : Front = c.args.front.now in
+    let e = c.look_at_each.ensures in
+    let h : IsTended vars c.args.store.now (lits_of after) w a =
+    tended_grown vars c.args.store.now before after old w a e.grown e.keeps c.requires.tended in
+    h

@@ -1,4 +1,4 @@
-use Rattle.std.proofs.Common.{◌≡◌, ℕ, ◌<◌, List, [], length, Option, None, Some, slice_get, inl, inr, refl, sym, subst, ◌∙◌, ap, arith}
+use Rattle.std.proofs.Common.{ℕ, ◌<◌, List, length, Option, None, Some, inl, inr, refl, ◌∙◌, arith}
 use Rattle.std.proofs.lemmas.Bool.Decides.{eqb_tells}
 use Rattle.std.proofs.lemmas.List.{length-set}
 use Rattle.std.proofs.lemmas.Option.{slice_get_within}
@@ -29,11 +29,11 @@ loop-at-preserved c =
     }
 
 pub returns-clause-front : goal.returns-clause-front
-returns-clause-front c = λ vars store lits h still.
+returns-clause-front c = λ vars store w lits h still.
     let i = c.loop-at.invariant in
     let new : Front =
     record { marks = c.loop-at.self.marks; log = c.clear.new.self; head = c.loop-at.self.head; seen = 0; dirty = c.loop-at.self.dirty } in
-    front_cleared vars store lits c.args.self.now new i.width
+    front_cleared vars store w lits c.args.self.now new i.width
     (λ d n e.
     let less = slice_get_within c.loop-at.self.marks.items d (Some n) e in
     i.gone d n (let t = c.loop-at-test.false in let w = i.width in omega (arith, t, w, less, c.len-at-end.ensures)) e)

@@ -1,4 +1,4 @@
-use Rattle.std.proofs.Common.{◌≡◌, ℕ, List, Some, true, sym, subst, ap}
+use Rattle.std.proofs.Common.{◌≡◌, ℕ, Some, true, sym, subst}
 use Rattle.std.proofs.lemmas.Option.{same_Some}
 use Rattle.ja_base.specs.Literals.{bit}
 use Rattle.ja_base.specs.Trails.{IsForcedBy}
@@ -28,7 +28,7 @@ propagate-requires-clause-held c =
 pub propagate-requires-clause-tended : goal.propagate-requires-clause-tended
 propagate-requires-clause-tended c =
     let place : Place = record { lit = c.args.lit; reason = Some c.args.at } in
-    let P : ℕ → Type 0 = λ n. IsTended n c.self.inside.store (lits_of c.push.new.self.places) c.self.inside.occurs c.self.inside.front in
+    let P : ℕ → Type 0 = λ n. IsTended n c.self.inside.store (lits_of c.push.new.self.places) c.self.inside.watches c.self.inside.front in
     subst P (sym c.push.ensures.vars)
     (tended_push c.self.inside.trail.vars c.self.inside.store c.self.inside.trail.places c.push.new.self.places place
-    c.self.inside.occurs c.self.inside.front c.push.ensures.places c.self.invariant.2)
+    c.self.inside.watches c.self.inside.front c.push.ensures.places c.self.invariant.2)

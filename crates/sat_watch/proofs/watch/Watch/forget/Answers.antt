@@ -1,4 +1,4 @@
-use Rattle.std.proofs.Common.{◌≡◌, ℕ, List, All, sym, subst, ◌∙◌, ap}
+use Rattle.std.proofs.Common.{ℕ, List, All, sym, subst, ap}
 use Rattle.ja_base.specs.Clauses.{IsBelow}
 use Rattle.sat_plain.specs.declared.place.Place.{Place}
 use Rattle.sat_plain.specs.Trails.{lits_of}
@@ -17,7 +17,6 @@ invariant_of-self c =
     let idle = subst Q (sym (ap (λ (w : Watched). w.trail.places) c.self.view_is)) c.requires.idle in (
       subst P (sym clauses) c.self.invariant.0,
       held_forget old c.forget.new.self c.self.inside.trail c.args.at c.self.invariant.1 idle clauses live,
-      tended_forget c.self.inside.trail.vars old c.forget.new.self (lits_of c.self.inside.trail.places) c.self.inside.occurs
-          c.unlist.new.occurs c.self.inside.front c.args.at clauses live c.unlist.ensures.width c.unlist.ensures.others
-          c.self.invariant.2,
+      tended_forget c.self.inside.trail.vars old c.forget.new.self (lits_of c.self.inside.trail.places) c.self.inside.watches
+          c.leave.new.self c.self.inside.front c.args.at clauses live c.leave.ensures c.self.invariant.2,
     )

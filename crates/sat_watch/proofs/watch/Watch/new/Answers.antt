@@ -1,4 +1,4 @@
-use Rattle.std.proofs.Common.{◌≡◌, ℕ, List, [], Some, slice_get, length, sym, subst, ◌∙◌, ap, arith}
+use Rattle.std.proofs.Common.{◌≡◌, ℕ, List, [], Some, slice_get, sym, subst, ap, arith}
 use Rattle.std.specs.List.{All}
 use Rattle.std.proofs.lemmas.List.Elements.{All-nil}
 use Rattle.std.proofs.lemmas.Option.{none-some}
@@ -30,10 +30,10 @@ invariant_of-result c =
     let clauses : store.clauses ≡ [] = ap (λ (s : Stored). s.clauses) c.new-4.ensures in
     let live : store.live ≡ [] = ap (λ (s : Stored). s.live) c.new-4.ensures in
     let P : List (List ℕ) → Type 0 = All (IsBelow trail.vars) in
-    let Q : ℕ → Type 0 = λ n. IsFront n store (lits_of trail.places) c.in_ok-front.front in (
+    let Q : ℕ → Type 0 = λ n. IsFront n store c.in_ok-watches.watches (lits_of trail.places) c.in_ok-front.front in (
       subst P (sym clauses) (All-nil (IsBelow trail.vars)),
       held_none trail store c.in_ok-trail.ensures.places,
-      tended_new trail.vars store (lits_of trail.places) c.in_ok-occurs.occurs c.in_ok-front.front live
-          (let e = c.in_ok-occurs.ensures in omega (arith, e, vars))
-          (subst Q (sym vars) (c.in_ok-front.ensures store (lits_of trail.places))),
+      tended_new trail.vars store (lits_of trail.places) c.in_ok-watches.watches c.in_ok-front.front live clauses
+          (let e = c.in_ok-watches.ensures in omega (arith, e, vars))
+          (subst Q (sym vars) (c.in_ok-front.ensures store c.in_ok-watches.watches (lits_of trail.places))),
     )

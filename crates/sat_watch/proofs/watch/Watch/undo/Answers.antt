@@ -1,4 +1,4 @@
-use Rattle.std.proofs.Common.{◌≡◌, ℕ, List, All, length, take, sym, subst, ◌∙◌, ap, arith}
+use Rattle.std.proofs.Common.{ℕ, List, All, length, take, sym, subst, ◌∙◌, ap, arith}
 use Rattle.ja_base.specs.Clauses.{IsBelow}
 use Rattle.sat_plain.specs.Trails.{lits_of}
 use Rattle.sat_plain.proofs.PlaceLemmas.{lits_take, lits_length}
@@ -22,15 +22,17 @@ invariant_of-self c =
     let vars : ℕ = c.self.inside.trail.vars in
     let lits : List ℕ = lits_of c.self.inside.trail.places in
     let P : ℕ → Type 0 = λ n. All (IsBelow n) c.self.inside.store.clauses in
-    let front : IsFront vars c.self.inside.store (take c.args.to lits) c.retreat.new.self =
-    c.retreat.ensures vars c.self.inside.store lits c.self.invariant.2.front_is
+    let front : IsFront vars c.self.inside.store c.self.inside.watches (take c.args.to lits) c.retreat.new.self =
+    c.retreat.ensures vars c.self.inside.store c.self.inside.watches lits c.self.invariant.2.front_is
     (c.len.ensures.value ∙ sym (lits_length c.self.inside.trail.places)) in
-    let Q : List ℕ → Type 0 = λ v. IsFront vars c.self.inside.store v c.retreat.new.self in
-    let R : ℕ → Type 0 = λ n. IsTended n c.self.inside.store (lits_of c.undo.new.self.places) c.self.inside.occurs c.retreat.new.self in (
+    let Q : List ℕ → Type 0 = λ v. IsFront vars c.self.inside.store c.self.inside.watches v c.retreat.new.self in
+    let R : ℕ → Type 0 = λ n. IsTended n c.self.inside.store (lits_of c.undo.new.self.places) c.self.inside.watches c.retreat.new.self in (
       subst P (sym c.undo.ensures.vars) c.self.invariant.0,
       held_take c.self.inside.store c.self.inside.trail c.undo.new.self c.args.to c.self.invariant.1 c.undo.ensures.places,
       subst R (sym c.undo.ensures.vars) (record {
-        listed = c.self.invariant.2.listed;
+        wide = c.self.invariant.2.wide;
+        long = c.self.invariant.2.long;
+        paired = c.self.invariant.2.paired;
         front_is = subst Q (sym (ap lits_of c.undo.ensures.places ∙ lits_take c.args.to c.self.inside.trail.places)) front;
       }),
     )

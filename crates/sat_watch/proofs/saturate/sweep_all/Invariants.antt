@@ -1,0 +1,20 @@
+use Rattle.std.proofs.Common.{◌≡◌, ◌<◌, ℕ, List, length}
+use Rattle.std.specs.List.{All}
+use Rattle.ja_base.specs.Clauses.{IsBelow}
+use Rattle.sat_plain.specs.Trails.{IsAssigned, lits_of}
+use Rattle.sat_watch.specs.Stores.{IsHeld, IsThere, over}
+use Rattle.sat_watch.specs.Steps.{IsForcedOn}
+use Rattle.sat_watch.specs.Fronts.{IsFine}
+use Rattle.sat_watch.proofs.saturate.sweep_all.Given as goal
+
+abbrev pub invariant-loop-slot : goal.invariant-loop-slot
+invariant-loop-slot l =
+    record {
+      vars : l.trail.vars ≡ l.initial.trail.vars;
+      below : All (IsBelow l.trail.vars) l.store.clauses;
+      grown : IsForcedOn l.initial.trail.places l.trail.places;
+      held : IsHeld (over l.trail l.store);
+      is : IsAssigned l.trail;
+      fine : (k : ℕ) (clause : List ℕ) → k < l.slot → IsThere l.store k clause
+          → IsFine (lits_of l.trail.places) (length l.initial.trail.places) clause;
+    }
