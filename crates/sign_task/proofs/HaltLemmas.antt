@@ -27,7 +27,7 @@ use Rattle.sign_task.specs.Replies.{is_gave_up}
 use Rattle.sign_task.specs.Underway.{SignBoard, IsUnderway, IsStopped, IsHaltedAt, IsHalted, IsMarked, AreMarked, Keeps, KeepsMarks}
 use Rattle.sign_task.proofs.JudgementLemmas.{judged_settles, keeps_itself, keeps_more}
 
-abbrev task_of : ClosedList → _
+abbrev task_of : ClosedList → Problem
 task_of list = problem list.task
 
 -- ---- a Cancel
@@ -251,3 +251,6 @@ returned_underway t terms before after h opening task width = record {
   task = task ∙ h.task;
   width = width ∙ ap (λ (u : Problem). length u.circuit.bads) (task ∙ h.task);
 }
+
+pub marked_more : (board : SignBoard) (n : ℕ) → AreMarked board n → IsMarked board n → AreMarked board (n + 1)
+marked_more board n below here = marked_up_to board board n below (keeps_itself board) here

@@ -3,7 +3,7 @@ use Rattle.std.proofs.Common.{◌≡◌, ℕ, ◌+◌, ◌<◌, Bool, true, fals
 use Rattle.std.specs.Prelude.{All, Contains, IfSome, flat_map}
 use Rattle.std.proofs.lemmas.Bool.{false≢true}
 use Rattle.std.proofs.lemmas.Option.{slice_get_within, get_or_from_slice_get, none-some}
-use Rattle.std.proofs.lemmas.List.{append-nil, append-assoc, length-append}
+use Rattle.std.proofs.lemmas.List.{append-nil, append_assoc, length-append}
 use Rattle.std.proofs.lemmas.List.Elements.{All-head, All-tail}
 use Rattle.ja_base.specs.Failures.{Failure}
 use Rattle.aig_model.specs.Task.{VerificationTask}
@@ -86,10 +86,10 @@ module _ (props n seat : ℕ) where
   }
     where
       plain : (x : Mark) → settled_clauses None x clauses added ≡ added → may_append (Settles p x) ≡ false → added ≡ []
-      plain mark.Proved e no = absurd (false≢true (sym no))
-      plain mark.Fails e no = sym e
-      plain (mark.Budget k) e no = sym e
-      plain mark.Cancelled e no = sym e
+      plain mark.Proved e never = absurd (false≢true (sym never))
+      plain mark.Fails e never = sym e
+      plain (mark.Budget k) e never = sym e
+      plain mark.Cancelled e never = sym e
 
   cancel_answers : (p : ℕ) (can : Bool) → p < props
       → IsAnswered props n (entry seat (Cancel p) (cond can reply.Cancelled reply.NotNow))
@@ -199,7 +199,7 @@ module _ (o : Opening) (planned : (p : ℕ) → Contains o.plan p → p < length
       → s.clauses ++ flat_map (λ (e : Entry). added_by e.event) es ≡ (state_behind o s es).clauses
   all_appended s [] legal = append-nil s.clauses
   all_appended s (e ∷ es) legal =
-      sym (append-assoc s.clauses (added_by e.event) (flat_map (λ (x : Entry). added_by x.event) es))
+      sym (append_assoc s.clauses (added_by e.event) (flat_map (λ (x : Entry). added_by x.event) es))
       ∙ ap (λ (xs : List (List ℕ)). xs ++ flat_map (λ (x : Entry). added_by x.event) es)
       (sym (clauses_behind s e.event legal.0.kept_is))
       ∙ all_appended (state_after o s e.event) es legal.1

@@ -1,1 +1,1 @@
-mod JudgementLemmas
+pub mod JudgementLemmas

@@ -14,3 +14,11 @@ settle-requires-clause-proved g c =
     c.in_ok-judged.judged c.in_ok-judged.ensures.judged (sym c.requires.underway.task) in
     subst (λ (q : ℕ). IfProved c.in_ok-judged.judged (λ (list : ClosedList). (problem list.task ≡ problem c.args.board.now.list.task)
     × Covers (circuit list.task.design) list.clauses q)) (sym c.judged_property-settled.ensures) h
+
+pub returns-clause-marked : goal.returns-clause-marked
+returns-clause-marked g c =
+    let low = judged_within c.args.coded.now c.args.prop c.args.meter.now.limit c.in_ok-judged.judged
+    c.in_ok-judged.ensures.judged c.requires.within in
+    let mid = settling_marks c.judged_property-settled.result c.args.board.now c.settle.new.self c.in_ok-judged.judged
+    (omega (arith, low, c.judged_property-settled.ensures, c.requires.underway.width)) c.in_ok-settle.ensures.did in
+    c.in_ok-halt.ensures.kept.keeps.stay c.judged_property-settled.result mid
