@@ -32,11 +32,7 @@ fn signed<'a>(
     Ok((out, ran.status, ran.report))
 }
 
-fn check_report(
-    rt: &HostRuntime,
-    report: Option<Report>,
-    text: &[u8],
-) -> Result<(), Fail> {
+fn check_report(rt: &HostRuntime, report: Option<Report>, text: &[u8]) -> Result<(), Fail> {
     let report = report.ok_or("no report is handed back")?;
     let again = text_of(rt.alloc(), &report)?;
     assert_eq!(rt; again.bytes(), text);

@@ -63,7 +63,7 @@ fn outcome_of<F: Shelf, G: Gate + Sync, R: Threads + Wait + Sync>(
     shelf: &mut F,
     gate: &G,
 ) -> Outcome
-    requires { HasFewWorkers order.entry }
+    requires { HasFewWorkers order }
     ensures kept { F.holds shelf.new ≡ F.holds shelf.old }
     ensures later { F.faults shelf.old ≤ F.faults shelf.new }
     ensures quiet { IsQuiet (F.faults shelf.old) (F.faults shelf.new) result }
@@ -94,7 +94,7 @@ pub fn sign_run<F: Shelf, K: Sink, G: Gate + Sync, R: Threads + Wait + Sync>(
     out: &mut K,
     gate: &G,
 ) -> Ran
-    requires { HasFewWorkers order.entry }
+    requires { HasFewWorkers order }
     ensures kept { F.holds shelf.new ≡ F.holds shelf.old }
     ensures means { (o : Outcomes)
         × Signs (F.holds shelf.old) (F.faults shelf.old) (F.faults shelf.new)

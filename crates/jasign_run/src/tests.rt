@@ -236,7 +236,14 @@ fn words_that_are_no_command(rt: HostRuntime) -> Result<(), Fail> {
         let mut shelf = shelf_of(alloc, &[], 8, Vec::new(alloc))?;
         let mut out = MemSink::new(alloc, 100)?;
         let words = words_of(alloc, list)?;
-        let ran = jasign_run(&rt, alloc, words.as_slice(), &mut shelf, &mut out, &OpenGate);
+        let ran = jasign_run(
+            &rt,
+            alloc,
+            words.as_slice(),
+            &mut shelf,
+            &mut out,
+            &OpenGate,
+        );
         assert_eq!(rt; out.bytes(), b"fault: usage\n".as_slice());
         assert_eq!(rt; ran.status, 4);
     }
