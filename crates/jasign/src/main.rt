@@ -31,19 +31,23 @@ fn words_of(rt: &(impl Env + AllocGlobal)) -> Result<Vec<String>, NoWords> {
     Ok(words)
 }
 
-/// What the words come to. Nobody watches the workers.
-fn status_of(rt: &HostRuntime, words: &[String]) -> u8 {
-    let mut shelf = FileShelf::new(rt);
-    let mut out = StdSink::new(rt);
-    jasign_run(rt, rt.alloc(), words, &mut shelf, &mut out, &OpenGate).status
-}
-
 fn main(rt: HostRuntime) -> ExitCode {
-    let status = match words_of(&rt) {
-        Ok(words) => status_of(&rt, words.as_slice()),
+    let mut shelf = FileShelf::new(&rt);
+    let mut out = StdSink::new(&rt);
+    let words = match words_of(&rt) {
+        Ok(words) => words,
         // No command has a word that is no text, and none has no words.
-        Err(NoWords::NotText) => status_of(&rt, &[]),
-        Err(NoWords::Memory) => memory_run(&mut StdSink::new(&rt)),
+        Err(NoWords::NotText) => Vec::new(rt.alloc()),
+        Err(NoWords::Memory) => return ExitCode::from(memory_run(&mut out)),
     };
-    ExitCode::from(status)
+    let alloc = rt.alloc();
+    let ran = jasign_run(
+        &rt,
+        alloc,
+        words.as_slice(),
+        &mut shelf,
+        &mut out,
+        &OpenGate,
+    );
+    ExitCode::from(ran.status)
 }

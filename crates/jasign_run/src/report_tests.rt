@@ -6,11 +6,13 @@ use ja_outside::MemSink;
 use ja_std::OpenGate;
 use report::{Report, text_of};
 use std::alloc::Global;
+use std::sync::Wait;
 use std::test::Fail;
+use std::thread::Threads;
 
 /// What `sign` writes of a design, with expectations where there are some; the report that it hands back has the same text.
 fn signed<'a>(
-    rt: &HostRuntime,
+    rt: &(impl std::process::Abort + AllocGlobal + Threads + Wait + Sync),
     design: &'a [u8],
     expect: Option<&'a [u8]>,
     room: u64,
@@ -32,7 +34,11 @@ fn signed<'a>(
     Ok((out, ran.status, ran.report))
 }
 
-fn check_report(rt: &HostRuntime, report: Option<Report>, text: &[u8]) -> Result<(), Fail> {
+fn check_report(
+    rt: &(impl std::process::Abort + AllocGlobal + Threads + Wait + Sync),
+    report: Option<Report>,
+    text: &[u8],
+) -> Result<(), Fail> {
     let report = report.ok_or("no report is handed back")?;
     let again = text_of(rt.alloc(), &report)?;
     assert_eq!(rt; again.bytes(), text);

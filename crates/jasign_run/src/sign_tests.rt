@@ -6,11 +6,13 @@ use crate::tests::{shelf_of, words_of};
 use ja_outside::MemSink;
 use ja_std::OpenGate;
 use std::alloc::Global;
+use std::sync::Wait;
 use std::test::Fail;
+use std::thread::Threads;
 
 /// The words name the files `d` and `s`, as many as there are; no report comes of them.
 fn check_fault(
-    rt: &HostRuntime,
+    rt: &(impl std::process::Abort + AllocGlobal + Threads + Wait + Sync),
     held: &[&[u8]],
     fails: Vec<u64>,
     words: &[&str],

@@ -8,7 +8,9 @@ use aiger_binary::read_binary;
 use ja_outside::{MemShelf, MemSink};
 use ja_std::OpenGate;
 use std::alloc::{AllocError, Global};
+use std::sync::Wait;
 use std::test::Fail;
+use std::thread::Threads;
 
 pub(crate) fn shelf_of(
     alloc: Global,
@@ -38,7 +40,7 @@ pub(crate) fn words_of(alloc: Global, words: &[&str]) -> Result<Vec<String>, All
 
 /// The words name the files `d`, `s` and `e`, as many as there are.
 fn check_case(
-    rt: &HostRuntime,
+    rt: &(impl std::process::Abort + AllocGlobal + Threads + Wait + Sync),
     case: &Case,
     held: &[&[u8]],
     piece: usize,
