@@ -233,13 +233,14 @@ fn signs_worked_designs(rt: HostRuntime) -> Result<(), Fail> {
     Ok(())
 }
 
-// The second property is given up behind the failure of the first one; where that is expected to fail, it ends nothing.
+// What is expected to hold comes first, and its failure ends the run; a failure that was expected ends nothing.
 #[test]
 fn stops_at_the_first_failure(rt: HostRuntime) -> Result<(), Fail> {
     let alloc = rt.alloc();
     for (failing, marks) in [
         (NONE, &[Fails, Cancelled]),
-        ([true, false, false], &[Fails, Fails]),
+        ([true, false, false], &[Cancelled, Fails]),
+        ([true, true, false], &[Fails, Fails]),
     ] {
         let task = task(alloc, TWO, failing).ok_or("no design")?;
         let terms = Terms {
