@@ -189,7 +189,7 @@ def main(folder):
     (folder / "shallow.aag").write_text(shallow(8, 200))
     for latches in (10, 20):
         (folder / f"ring_{latches}.aag").write_text(ring(latches)[0])
-    (folder / "counters.aag").write_text(counters(200, 5))
+    (folder / "counters.aag").write_text(counters(200, 2))
     for name, text in zip(["ring.aag", "ring.clauses", "ring.proofs"], ring(3_000)):
         (folder / name).write_text(text)
     clauses, log = refutations(100_000, 1_000_000)
