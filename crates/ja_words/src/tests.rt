@@ -201,9 +201,13 @@ fn signs(rt: HostRuntime) -> Result<(), Fail> {
 #[test]
 fn confirms(rt: HostRuntime) -> Result<(), Fail> {
     let alloc = rt.alloc();
-    for (count, expect) in [(3, None), (4, Some("e"))] {
-        let words = words_of(alloc, &["confirm", "d", "s", "e"])?;
-        let read = read_words(alloc, &words.as_slice()[..count]).map_err(|_| "usage")?;
+    let rows: [(&[&str], Option<&str>); 2] = [
+        (&["confirm", "d", "s"], None),
+        (&["confirm", "d", "s", "e"], Some("e")),
+    ];
+    for (words, expect) in rows {
+        let words = words_of(alloc, words)?;
+        let read = read_words(alloc, words.as_slice()).map_err(|_| "usage")?;
         let (design, stim) = ("d", "s");
         let names = Names {
             design,
