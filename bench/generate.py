@@ -144,6 +144,24 @@ def counters(count, bits):
     return "\n".join(lines + [" ".join(map(str, gate)) for gate in gates]) + "\n"
 
 
+def delays(count, length):
+    """So many pairs of shift registers that take the same input; a property for each place of each pair, that the two never differ one
+    way there."""
+    inputs = [2 * (at + 1) for at in range(count)]
+    latch = lambda pair, side, place: 2 * (count + 1 + (pair * 2 + side) * length + place)
+    top, latches, gates, bads = count + count * 2 * length, [], [], []
+    for pair in range(count):
+        for side in range(2):
+            rows = [inputs[pair]] + [latch(pair, side, place) for place in range(length - 1)]
+            latches += [f"{latch(pair, side, place)} {row}" for place, row in enumerate(rows)]
+        for place in range(length):
+            top += 1
+            gates.append(f"{2 * top} {latch(pair, 0, place)} {latch(pair, 1, place) ^ 1}")
+            bads.append(str(2 * top))
+    lines = [f"aag {top} {count} {len(latches)} 0 {len(gates)} {len(bads)}", *map(str, inputs), *latches, *bads, *gates]
+    return "\n".join(lines) + "\n"
+
+
 def report(clauses, props, seed=5):
     """The report of a design of 20,000 latches: every fortieth property fails, and the journal is shown."""
     chance = random.Random(seed)

@@ -1,8 +1,7 @@
 -- Refusals behind the gates, and that a file that is spelled has none.
-use Rattle.std.proofs.Common.{◌≡◌, ℕ, zero, suc, ◌<◌, List, length, Result, Ok, Err, refl, sym, ap, subst, ◌∙◌, ◌⊎◌, inl, inr, arith}
+use Rattle.std.proofs.Common.{◌≡◌, ℕ, List, length, Result, Ok, Err, refl, sym, ap, subst, ◌∙◌, ◌⊎◌, inl, inr}
 use Rattle.std.specs.Prelude.{MatchResult, IfOk}
 use Rattle.ja_base.specs.Circuit.{Circuit}
-use Rattle.ja_base.specs.Replay.{IsLeast}
 use Rattle.ja_base.specs.Answers.{IfRefused}
 use Rattle.ja_base.specs.declared.memory.OrMemory.{OrMemory}
 use Rattle.ja_base.specs.declared.memory.OrMemory.TheVariants.{Refused, Memory}
@@ -11,11 +10,10 @@ use Rattle.aig_model.specs.declared.netlist.Parts.{Parts}
 use Rattle.aig_model.specs.declared.build.BuildRefusal.{BuildRefusal}
 use Rattle.aig_model.specs.declared.build.BuildRefusal.TheVariants.{Twice, Undefined, Cycle}
 use Rattle.aig_model.specs.Netlist.{circuit}
-use Rattle.aig_model.specs.Refusals.{netlist_of, IsRefusal, IsUndefined, ReachesCycle, AreOnce, AreDefined, MakesDesign}
+use Rattle.aig_model.specs.Refusals.{netlist_of, IsRefusal, AreOnce, MakesDesign}
 use Rattle.aig_model.proofs.RefusalLemmas.{refusals_agree_lem, designs_are_not_refused_lem}
 use Rattle.aiger_lines.specs.declared.refusal.ReadRefusal.{ReadRefusal}
 use Rattle.aiger_lines.specs.declared.refusal.ReadRefusal.TheVariants.{Symbol}
-use Rattle.aiger_lines.specs.declared.refusal.ReadRefusal.TheVariants as refusal
 use Rattle.aiger_lines.specs.Tail.{HasBadLine}
 use Rattle.aiger_lines.specs.Reading.{place}
 use Rattle.aiger_lines.specs.Files.{File, IsTailRefusal}
@@ -24,8 +22,9 @@ use Rattle.aiger_lines.proofs.TailLemmas.{tail_has_none, bad_line_one}
 use Rattle.aiger_ascii.specs.Grammar.{Spells, IsAsciiDesign}
 use Rattle.aiger_ascii.specs.Reading.{file_at}
 use Rattle.aiger_ascii.specs.FirstRefusal.{IsLate, Becomes, IsBuildRefusal, IsFirstRefusal}
-use Rattle.aiger_ascii.proofs.FileLemmas.{file_once, file_spells}
+use Rattle.aiger_ascii.proofs.FileLemmas.{file_range, file_once, file_spells}
 use Rattle.aiger_ascii.proofs.SpellLemmas.{file_of, file_again}
+use Rattle.aiger_ascii.proofs.DesignLemmas.{MakesOrIsRefused, makes_or_is_refused}
 
 -- where no variable is defined twice, that is not what lists are refused for
 pub late_refusal : (p : Parts) (b : BuildRefusal) → AreOnce p → IsRefusal p b → IsLate b
@@ -92,40 +91,23 @@ not_refused bytes (Err Memory) c refused spelled = tt
 
 -- ---- a design or a refusal
 
--- where no number with the property is the least, none has it
-none_below : (P : ℕ → Type 0) → ((k : ℕ) → IsLeast P k → ⊥) → (n k : ℕ) → k < n → P k → ⊥
-none_below P never zero k lt p = absurd (omega arith)
-none_below P never (suc n) k lt p = never k (p, λ j below q. none_below P never n j (omega arith) q)
+abbrev Answered : List ℕ → Type 0
+Answered bytes = ((c : Circuit) × IsAsciiDesign bytes c) ⊎ ((r : ReadRefusal) × IsFirstRefusal bytes r)
 
-none_at_all : (P : ℕ → Type 0) → ((k : ℕ) → IsLeast P k → ⊥) → (k : ℕ) → P k → ⊥
-none_at_all P never k p = none_below P never (suc k) k (omega arith) p
+by_tail : (bytes : List ℕ) (f : File) → file_at bytes ≡ Ok f → MakesDesign f.parts → TailCases f.head f.tail → Answered bytes
+by_tail bytes f e design (inl tail) = inl (circuit (netlist_of f.parts), (f.parts, file_spells bytes f e design tail, refl))
+by_tail bytes f e design (inr bad) =
+    let at = place (length bytes) bad.0 in
+    inr (Symbol at, tail_refusal bytes f at bad.0 e design bad.1 refl)
 
-module _ (bytes : List ℕ) (no_design : (c : Circuit) → IsAsciiDesign bytes c → ⊥)
-    (no_first : (r : ReadRefusal) → IsFirstRefusal bytes r → ⊥) where
-  no_build : (f : File) → file_at bytes ≡ Ok f → (r : ReadRefusal) → IsBuildRefusal f.parts r → ⊥
-  no_build f e r late = no_first r (rw e (inl late))
+by_parts : (bytes : List ℕ) (f : File) → file_at bytes ≡ Ok f → MakesOrIsRefused f.parts → Answered bytes
+by_parts bytes f e (inl design) = by_tail bytes f e design (tail_cases f.head f.tail)
+by_parts bytes f e (inr late) = inr (late.0, rw e (inl late.1))
 
-  makes_design : (f : File) → file_at bytes ≡ Ok f → MakesDesign f.parts
-  makes_design f e =
-      let once = file_once bytes f e in
-      let defined : AreDefined f.parts = none_at_all (IsUndefined f.parts)
-      (λ v least. no_build f e (refusal.Undefined v) (Undefined v, (once, least), refl)) in
-      record {
-        once = once;
-        defined = defined;
-        acyclic = none_at_all (ReachesCycle f.parts.gates)
-            (λ v least. no_build f e (refusal.Cycle v) (Cycle v, (once, defined, least), refl));
-      }
-
-  no_file : (f : File) → file_at bytes ≡ Ok f → MakesDesign f.parts → TailCases f.head f.tail → ⊥
-  no_file f e design (inl tail) = no_design (circuit (netlist_of f.parts)) (f.parts, file_spells bytes f e design tail, refl)
-  no_file f e design (inr bad) =
-      let at = place (length bytes) bad.0 in
-      no_first (Symbol at) (tail_refusal bytes f at bad.0 e design bad.1 refl)
-
-  pub neither : ⊥
-  neither = by_reading (file_at bytes) refl
-    where
-      by_reading : (read : Result File ReadRefusal) → file_at bytes ≡ read → ⊥
-      by_reading (Ok f) e = no_file f e (makes_design f e) (tail_cases f.head f.tail)
-      by_reading (Err r) e = no_first r (rw e refl)
+pub spells_or_is_refused : (bytes : List ℕ) → ((c : Circuit) × IsAsciiDesign bytes c)
+    ⊎ ((r : ReadRefusal) × IsFirstRefusal bytes r)
+spells_or_is_refused bytes = by_reading (file_at bytes) refl
+  where
+    by_reading : (read : Result File ReadRefusal) → file_at bytes ≡ read → Answered bytes
+    by_reading (Ok f) e = by_parts bytes f e (makes_or_is_refused f.parts (file_range bytes f e) (file_once bytes f e))
+    by_reading (Err r) e = inr (r, rw e refl)

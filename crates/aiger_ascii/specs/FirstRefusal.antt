@@ -34,8 +34,7 @@ IsFirstRefusal bytes r = MatchResult (file_at bytes)
     (λ f. IsBuildRefusal f.parts r ⊎ (MakesDesign f.parts × IsTailRefusal (length bytes) f r))
     (λ e. r ≡ e)
 
--- No bytes are neither a design in the ASCII form nor have a first refusal. Which of the two they are is not decided here: for a
--- cycle of gates that takes a search.
+-- bytes are a design in the ASCII form, or they have a first refusal
 abbrev pub SpellsOrIsRefused : Type 0
-SpellsOrIsRefused = (bytes : List ℕ) → ((c : Circuit) → IsAsciiDesign bytes c → ⊥)
-    → ((r : ReadRefusal) → IsFirstRefusal bytes r → ⊥) → ⊥
+SpellsOrIsRefused = (bytes : List ℕ) → ((c : Circuit) × IsAsciiDesign bytes c)
+    ⊎ ((r : ReadRefusal) × IsFirstRefusal bytes r)

@@ -1,11 +1,9 @@
 //! All properties of a design on one engine.
 
 ghost use Rattle.std.specs.Prelude.{◌≡◌, ◌<◌, length};
-ghost use Rattle.ic3_query.specs.Questions.{IsRoom};
-ghost use Rattle.ic3_engine.specs.Engines.{IsReady};
-ghost use Rattle.ic3_engine.specs.Turns.{state};
+ghost use Rattle.ic3_engine.specs.Engines.{IsReadyFor};
 
-use ic3_engine::{Engine, Found, prove};
+use ic3_engine::{Engine, Found, NoShare, prove};
 use inv_cert::Closed;
 use ja_base::{ClosedSet, Memory, Meter};
 use ja_outside::Flag;
@@ -46,33 +44,58 @@ impl Flag for Units {
     }
 }
 
-/// One property, with no limit.
+/// What the engine finds, with no limit; None for want of memory.
+fn find<S: Probe, L: Sat>(
+    alloc: Global,
+    coded: &Coded,
+    prop: u32,
+    engine: &mut Engine<S, L>,
+    units: &mut Units,
+) -> Option<Found>
+    requires within { prop < length coded.now.design.bads }
+    requires ready { IsReadyFor S.count S.added coded.now engine.old }
+    ensures ready { IsReadyFor S.count S.added coded.now engine.new }
+{
+    let task = coded.task().share().ok()?;
+    let mut share = NoShare::new(task);
+    let mut meter = Meter::new(None);
+    prove(alloc, coded, prop, engine, &mut meter, units, &mut share).ok()
+}
+
+/// Counts the answer, and tells whether it is of the property: a failure of another one, broken first on the way, is counted where
+/// that one is asked for.
+fn count(found: &Option<Found>, prop: u32, tally: &mut Tally) -> bool {
+    match found {
+        Some(Found::Proved(_)) => tally.proved = tally.proved.saturating_add(1),
+        Some(Found::Fails(failure)) => {
+            if failure.prop() != prop {
+                return false;
+            }
+            tally.failing = tally.failing.saturating_add(1);
+        }
+        None => tally.open = tally.open.saturating_add(1),
+    }
+    true
+}
+
+/// One property. Each failure of another is told once, so that there are no more of them than properties.
 fn take<S: Probe, L: Sat>(
     alloc: Global,
     coded: &Coded,
     prop: u32,
-    engine: &mut Engine<S>,
+    engine: &mut Engine<S, L>,
     tally: &mut Tally,
 )
     requires within { prop < length coded.now.design.bads }
-    requires ready { IsReady coded.now (state engine.old.search.known engine.old.search.frames
-        engine.old.search.queue (S.count engine.old.search.solver)
-        (S.added engine.old.search.solver)) engine.old.table engine.old.failed engine.old.live }
-    requires room { IsRoom coded.now.design engine.old.search.room.row
-        engine.old.search.room.vals }
-    ensures ready { IsReady coded.now (state engine.new.search.known engine.new.search.frames
-        engine.new.search.queue (S.count engine.new.search.solver)
-        (S.added engine.new.search.solver)) engine.new.table engine.new.failed engine.new.live }
-    ensures room { IsRoom coded.now.design engine.new.search.room.row
-        engine.new.search.room.vals }
+    requires ready { IsReadyFor S.count S.added coded.now engine.old }
+    ensures ready { IsReadyFor S.count S.added coded.now engine.new }
 {
-    let mut meter = Meter::new(None);
     let mut units = Units { polls: 0 };
-    let found = prove::<S, L, Units>(alloc, coded, prop, engine, &mut meter, &mut units);
-    match found {
-        Ok(Found::Proved(_)) => tally.proved = tally.proved.saturating_add(1),
-        Ok(Found::Fails(_)) => tally.failing = tally.failing.saturating_add(1),
-        Err(_) => tally.open = tally.open.saturating_add(1),
+    for _ in 0..=coded.task().design().props() {
+        let found = find::<S, L>(alloc, coded, prop, engine, &mut units);
+        if count(&found, prop, tally) {
+            break;
+        }
     }
     tally.units = tally.units.saturating_add(units.polls);
 }
@@ -80,7 +103,7 @@ fn take<S: Probe, L: Sat>(
 /// The properties in the order of their numbers.
 pub(crate) fn tally_of<S: Probe, L: Sat>(alloc: Global, coded: &Coded) -> Result<Tally, Memory> {
     let view = Closed::empty(alloc, coded.task())?;
-    let mut engine: Engine<S> = Engine::new(alloc, coded, &view)?;
+    let mut engine: Engine<S, L> = Engine::new(alloc, coded, &view)?;
     let mut tally = Tally {
         proved: 0,
         failing: 0,

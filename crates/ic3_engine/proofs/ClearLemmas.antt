@@ -5,6 +5,7 @@ use Rattle.std.proofs.lemmas.List.Elements.{All-append, All-drop, All-take}
 use Rattle.std.proofs.lemmas.Option.{get_or_from_slice_get, slice_get_within}
 use Rattle.aig_model.specs.Task.{VerificationTask}
 use Rattle.local_stim.specs.Found.{FoundFailure}
+use Rattle.ic3_general.specs.declared.aim.Aim.{Aim}
 use Rattle.ic3_frames.specs.Levels.{Levels}
 use Rattle.ic3_frames.specs.Sums.{potential}
 use Rattle.ic3_frames.proofs.TopLemmas.{sum_is_bounded}
@@ -36,21 +37,21 @@ less_work bound old new top queue longer rises within few =
         let f = times_one b m h in
         omega (arith, e, f, few)
 
-pub blocks_goes_on : (t : VerificationTask) (p longer : ℕ) (old new : State) → Blocks t p longer old new → GoesOn t p old new
-blocks_goes_on t p longer old new b = record { searching = b.searching; top = b.top; rises = omega (arith, b.rises) }
+pub blocks_goes_on : (t : VerificationTask) (a : Aim) (longer : ℕ) (old new : State) → Blocks t a longer old new → GoesOn t a old new
+blocks_goes_on t a longer old new b = record { searching = b.searching; top = b.top; rises = omega (arith, b.rises) }
 
-pub fails_goes_on : (t : VerificationTask) (p longer : ℕ) (old new : State) (failure : FoundFailure) → Fails t p longer old new failure
-    → GoesOn t p old new
-fails_goes_on t p longer old new failure h = record {
+pub fails_goes_on : (t : VerificationTask) (a : Aim) (longer : ℕ) (old new : State) (failure : FoundFailure) → Fails t a longer old new failure
+    → GoesOn t a old new
+fails_goes_on t a longer old new failure h = record {
   searching = h.searching;
   top = ap (λ (f : Levels). f.top) h.frames;
   rises = subst (λ (f : Levels). potential (latch_vars t.design) f.kept ≤ potential (latch_vars t.design) new.frames.kept) h.frames (omega arith);
 }
 
 -- a cube that was blocked leaves no more to do
-pub blocks_pass : (t : VerificationTask) (p longer : ℕ) (old new : State) → longer ≤ old.frames.top → Blocks t p longer old new
+pub blocks_pass : (t : VerificationTask) (a : Aim) (longer : ℕ) (old new : State) → longer ≤ old.frames.top → Blocks t a longer old new
     → work_left t new ≤ work_left t old
-blocks_pass t p longer old new few b =
+blocks_pass t a longer old new few b =
     let vars = latch_vars t.design in
     let within = sum_is_bounded vars new.frames b.searching.search.core.levels in
     let here = subst (λ top. potential vars new.frames.kept ≤ 3 ^ length vars * top) b.top within in
@@ -61,10 +62,10 @@ blocks_pass t p longer old new few b =
     ap (λ top. (3 ^ length vars * top - potential vars new.frames.kept) * (top + 1) + length new.queue) b.top in
     omega (arith, less, same, b.queue)
 
-pub descends_pass : (t : VerificationTask) (p level : ℕ) (old new : State) (found : Option FoundFailure) → level ≤ old.frames.top
-    → Descends t p level old new found → Passes t p old new found
-descends_pass t p level old new None high b = (blocks_goes_on t p level old new b, blocks_pass t p level old new high b)
-descends_pass t p level old new (Some failure) high h = (fails_goes_on t p level old new failure h, h.found)
+pub descends_pass : (t : VerificationTask) (a : Aim) (level : ℕ) (old new : State) (found : Option FoundFailure) → level ≤ old.frames.top
+    → Descends t a level old new found → Passes t a old new found
+descends_pass t a level old new None high b = (blocks_goes_on t a level old new b, blocks_pass t a level old new high b)
+descends_pass t a level old new (Some failure) high h = (fails_goes_on t a level old new failure h, h.found)
 
 -- ---- what waits once one is taken
 
@@ -83,14 +84,14 @@ queue_is_shorter before after taken h = ap (λ (xs : List Obligation). length xs
 all_but_one : {X : Type 0} (P : X → Type 0) (xs : List X) (k : ℕ) → All P xs → All P (take k xs ++ drop (k + 1) xs)
 all_but_one P xs k all = All-append P (take k xs) (drop (k + 1) xs) (All-take P k xs all) (All-drop P (k + 1) xs all)
 
-pub taken_waits : (t : VerificationTask) (p top : ℕ) (before after : List Obligation) (taken : Obligation) → AreWaiting t p top before
-    → IsTaken before taken after → IsWaiting t p top taken
-taken_waits t p top before after taken all h =
-    subst (IsWaiting t p top) (get_or_from_slice_get before h.place taken taken h.is) (all h.place taken (slice_get_within before h.place taken h.is))
+pub taken_waits : (t : VerificationTask) (a : Aim) (top : ℕ) (before after : List Obligation) (taken : Obligation) → AreWaiting t a top before
+    → IsTaken before taken after → IsWaiting t a top taken
+taken_waits t a top before after taken all h =
+    subst (IsWaiting t a top) (get_or_from_slice_get before h.place taken taken h.is) (all h.place taken (slice_get_within before h.place taken h.is))
 
-pub others_wait : (t : VerificationTask) (p top : ℕ) (before after : List Obligation) (taken : Obligation) → AreWaiting t p top before
-    → IsTaken before taken after → AreWaiting t p top after
-others_wait t p top before after taken all h = subst (AreWaiting t p top) (sym h.rest) (all_but_one (IsWaiting t p top) before h.place all)
+pub others_wait : (t : VerificationTask) (a : Aim) (top : ℕ) (before after : List Obligation) (taken : Obligation) → AreWaiting t a top before
+    → IsTaken before taken after → AreWaiting t a top after
+others_wait t a top before after taken all h = subst (AreWaiting t a top) (sym h.rest) (all_but_one (IsWaiting t a top) before h.place all)
 
 pub taken_is_less : (t : VerificationTask) (new : State) (known : KnownList) (f : Levels) (before after : List Obligation)
     (count : ℕ) (added : List (List ℕ)) (taken : Obligation) → work_left t new ≤ work_left t (state known f after count added)

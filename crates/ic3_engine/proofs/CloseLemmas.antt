@@ -1,6 +1,7 @@
 -- A closed list and the clauses behind it, once they are joined: the same clauses.
-use Rattle.std.proofs.Common.{◌≡◌, ℕ, ◌+◌, Bool, true, List, [], ◌++◌, sym, ap, ◌∙◌, subst}
+use Rattle.std.proofs.Common.{◌≡◌, ℕ, ◌+◌, Bool, true, false, not, List, [], ◌++◌, sym, ap, ◌∙◌, subst}
 use Rattle.std.specs.Prelude.{All, Contains}
+use Rattle.std.proofs.lemmas.Bool.{false≢true}
 use Rattle.std.proofs.lemmas.List.{append-nil}
 use Rattle.ja_base.specs.Circuit.{Circuit}
 use Rattle.ja_base.specs.ClauseSets.{joined}
@@ -15,7 +16,7 @@ use Rattle.ic3_frames.specs.Levels.{AreLevels, Levels, is_blocked}
 use Rattle.ic3_frames.specs.Soundness.{IsIn}
 use Rattle.ic3_oblig.specs.declared.obligation.Obligation.{Obligation}
 use Rattle.ic3_query.specs.Known.{KnownList, all_of}
-use Rattle.ic3_query.specs.Questions.{IsGoodFrom}
+use Rattle.ic3_query.specs.Questions.{BadFor, IsGoodFrom}
 use Rattle.ic3_query.specs.Serving.{Serves}
 use Rattle.ic3_engine.proofs.KeepLemmas.{all_above_top}
 use Rattle.ic3_engine.specs.Climbing.{IsEngine}
@@ -97,3 +98,9 @@ pub asked_is_engine : (t : VerificationTask) (k : KnownList) (f : Levels) (queue
 asked_is_engine t k f queue count after added more e count_is added_is =
     subst (λ n. IsEngine t (state k f queue n more)) (sym count_is)
     (subst (λ (cs : List (List ℕ)). IsEngine t (state k f queue count cs)) (sym added_is) e)
+
+-- the same, seen from the answer of the question
+pub not_bad_covers : (t : VerificationTask) (known : List (List ℕ)) (f : Levels) (above p : ℕ) (values : List Bool) (breaks : Bool)
+    → AreLevels f → above ≡ f.top + 1 → BadFor t known f above p values breaks → not breaks ≡ true → Covers (circuit t.design) known p
+not_bad_covers t known f above p values true levels is answer holds = absurd (false≢true holds)
+not_bad_covers t known f above p values false levels is answer holds = good_above_covers t known f above p levels is answer

@@ -15,3 +15,4 @@ pub mod CloseLemmas
 pub mod LearnLemmas
 pub mod ViewLemmas
 pub mod OwnLemmas
+pub mod AimLemmas

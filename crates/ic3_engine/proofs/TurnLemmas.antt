@@ -7,6 +7,7 @@ use Rattle.ja_base.specs.Valuation.{latch_row}
 use Rattle.aig_model.specs.Netlist.{Netlist, IsSound, circuit}
 use Rattle.aig_model.specs.Task.{VerificationTask}
 use Rattle.ja_project.specs.Start.{starts}
+use Rattle.ic3_general.specs.declared.aim.Aim.{Aim}
 use Rattle.ic3_frames.specs.Levels.{Entry, Levels, is_blocked}
 use Rattle.ic3_frames.specs.Soundness.{IsIn}
 use Rattle.ic3_general.specs.Cubes.{IsOutside}
@@ -36,23 +37,23 @@ pub lower_waits : (n : Netlist) (kept : List Entry) (clause : List ℕ) (s : Lis
 lower_waits n kept clause s zero sound begins out initial = absurd (begins_has_no_initial n clause s sound begins initial out)
 lower_waits n kept clause s (suc k) sound begins out meets = (omega arith, excluding_is_free (circuit n) kept (suc k) clause s meets out)
 
-pub lowering_is_turn : (t : VerificationTask) (p : ℕ) (now : Obligation) (known : KnownList) (f : Levels) (before after : List Obligation)
+pub lowering_is_turn : (t : VerificationTask) (a : Aim) (now : Obligation) (known : KnownList) (f : Levels) (before after : List Obligation)
     (count next_count : ℕ) (added next_added : List (List ℕ)) (vals : List Bool) (turn : Turn) → IsSound t.design
-    → IsSearching t p (state known f before count added) → next_count ≡ count → next_added ≡ added → IsWaiting t p f.top now
-    → IsBefore t (all_of known) f (now.level - 1) now.clause vals → IsLowering t p now before after vals turn
-    → IsTurn t p now.level (state known f before count added) (state known f after next_count next_added) turn
-lowering_is_turn t p now known f before after count next_count added next_added vals turn sound s count_is added_is waits is_before h =
+    → IsSearching t a (state known f before count added) → next_count ≡ count → next_added ≡ added → IsWaiting t a f.top now
+    → IsBefore t (all_of known) f (now.level - 1) now.clause vals → IsLowering t a now before after vals turn
+    → IsTurn t a now.level (state known f before count added) (state known f after next_count next_added) turn
+lowering_is_turn t a now known f before after count next_count added next_added vals turn sound s count_is added_is waits is_before h =
     by_turn turn h
   where
     search : IsSearch t (all_of known) f next_count next_added
     search = subst (λ n. IsSearch t (all_of known) f n next_added) (sym count_is)
         (subst (λ (clauses : List (List ℕ)). IsSearch t (all_of known) f count clauses) (sym added_is) s.search)
 
-    by_turn : (turn : Turn) → IsLowering t p now before after vals turn
-        → IsTurn t p now.level (state known f before count added) (state known f after next_count next_added) turn
+    by_turn : (turn : Turn) → IsLowering t a now before after vals turn
+        → IsTurn t a now.level (state known f before count added) (state known f after next_count next_added) turn
     by_turn Done h = absurd h
     by_turn (Failed failure) h = record {
-      searching = record { search = search; task = s.task; waiting = subst (AreWaiting t p f.top) (sym h.0) s.waiting };
+      searching = record { search = search; task = s.task; waiting = subst (AreWaiting t a f.top) (sym h.0) s.waiting };
       frames = refl;
       queue = let same = ap length h.0 in omega (arith, same);
       found = h.1;
@@ -66,7 +67,7 @@ lowering_is_turn t p now known f before after count next_count added next_added 
           searching = record {
             search = search;
             task = s.task;
-            waiting = subst (AreWaiting t p f.top) (sym h.0) (All-push (IsWaiting t p f.top) before now s.waiting waits);
+            waiting = subst (AreWaiting t a f.top) (sym h.0) (All-push (IsWaiting t a f.top) before now s.waiting waits);
           };
           frames = refl;
           queue = ap length h.0 ∙ length-append before (now ∷ []);
@@ -83,19 +84,19 @@ lowering_is_turn t p now known f before after count next_count added next_added 
 
 -- ---- turns behind one another
 
-pub done_descends : (t : VerificationTask) (p level first : ℕ) (start now new : State) → now.frames ≡ start.frames
-    → length now.queue + level ≡ length start.queue + first → 1 ≤ level → Blocks t p 1 now new → Blocks t p first start new
-done_descends t p level first start now new frames queue low b = record {
+pub done_descends : (t : VerificationTask) (a : Aim) (level first : ℕ) (start now new : State) → now.frames ≡ start.frames
+    → length now.queue + level ≡ length start.queue + first → 1 ≤ level → Blocks t a 1 now new → Blocks t a first start new
+done_descends t a level first start now new frames queue low b = record {
   searching = b.searching;
   top = b.top ∙ ap (λ (f : Levels). f.top) frames;
   rises = subst (λ (f : Levels). potential (latch_vars t.design) f.kept < potential (latch_vars t.design) new.frames.kept) frames b.rises;
   queue = omega (arith, b.queue, queue, low);
 }
 
-pub failed_descends : (t : VerificationTask) (p level first : ℕ) (start now new : State) (failure : FoundFailure)
-    → now.frames ≡ start.frames → length now.queue + level ≡ length start.queue + first → Fails t p 0 now new failure
-    → Fails t p first start new failure
-failed_descends t p level first start now new failure frames queue h = record {
+pub failed_descends : (t : VerificationTask) (a : Aim) (level first : ℕ) (start now new : State) (failure : FoundFailure)
+    → now.frames ≡ start.frames → length now.queue + level ≡ length start.queue + first → Fails t a 0 now new failure
+    → Fails t a first start new failure
+failed_descends t a level first start now new failure frames queue h = record {
   searching = h.searching;
   frames = h.frames ∙ frames;
   queue = omega (arith, h.queue, queue);

@@ -5,8 +5,7 @@ use Rattle.aig_model.specs.Task.{VerificationTask}
 use Rattle.sat_plain.specs.Ticks.{IsRefused}
 use Rattle.ic3_engine.specs.declared.local.LocalAnswer.{LocalAnswer}
 use Rattle.ic3_engine.specs.declared.local.LocalAnswer.TheVariants.{Proved, Fails, Spent, Stopped, Memory}
-use Rattle.ic3_engine.specs.Found.{IsProvedFor}
-use Rattle.ic3_engine.specs.Waiting.{IsFailureFor}
+use Rattle.ic3_engine.specs.Found.{IsFailureFor, IsProvedFor}
 
 -- what was proved or fails is this property of this task
 abbrev pub IsOf : VerificationTask → ℕ → LocalAnswer → Type 0

@@ -5,6 +5,7 @@ ghost use Rattle.ja_outside.specs.Flags.{IsPolled, IsFoundRaised};
 ghost use Rattle.sat_plain.specs.Ticks.{IsLater};
 ghost use Rattle.ic3_query.specs.Endings.{IsCharged, OnStopped};
 ghost use Rattle.ic3_query.specs.Questions.{IsRoom};
+ghost use Rattle.ic3_general.specs.Aims.{IsAim};
 ghost use Rattle.ic3_engine.specs.Searching.{HasClosed};
 ghost use Rattle.ic3_engine.specs.Waiting.{IsWaiting};
 ghost use Rattle.ic3_engine.specs.Turns.{IsSearching, state};
@@ -12,6 +13,7 @@ ghost use Rattle.ic3_engine.specs.Clearing.{Clears, Passes};
 
 use crate::descent::descend;
 use crate::search::Search;
+use ic3_general::Aim;
 use ic3_oblig::Obligation;
 use ic3_query::Halt;
 use ja_base::Meter;
@@ -26,19 +28,19 @@ fn pass<S: Probe, F: Flag>(
     alloc: Global,
     coded: &Coded,
     table: &ResetTable,
-    prop: u32,
+    aim: &Aim,
     z: &mut Search<S>,
     next: Obligation,
     meter: &mut Meter,
     flag: &mut F,
 ) -> Result<Option<LocalFailure>, Halt>
     requires table { table.now ≡ coded.now.design }
-    requires within { prop < length coded.now.design.bads }
-    requires search { IsSearching coded.now prop (state z.old.known z.old.frames z.old.queue
+    requires aim { IsAim coded.now aim.now }
+    requires search { IsSearching coded.now aim.now (state z.old.known z.old.frames z.old.queue
         (S.count z.old.solver) (S.added z.old.solver)) }
     requires room { IsRoom coded.now.design z.old.room.row z.old.room.vals }
-    requires waits { IsWaiting coded.now prop z.old.frames.top next }
-    ensures passes { IfOk result (Passes coded.now prop
+    requires waits { IsWaiting coded.now aim.now z.old.frames.top next }
+    ensures passes { IfOk result (Passes coded.now aim.now
         (state z.old.known z.old.frames z.old.queue (S.count z.old.solver)
         (S.added z.old.solver))
         (state z.new.known z.new.frames z.new.queue (S.count z.new.solver)
@@ -53,7 +55,7 @@ fn pass<S: Probe, F: Flag>(
     if z.frames.blocks(next.level, &next.clause) {
         return Ok(None);
     }
-    let found = descend(alloc, coded, table, prop, z, next, meter, flag)?;
+    let found = descend(alloc, coded, table, aim, z, next, meter, flag)?;
     Ok(found)
 }
 
@@ -62,17 +64,17 @@ pub(crate) fn clear<S: Probe, F: Flag>(
     alloc: Global,
     coded: &Coded,
     table: &ResetTable,
-    prop: u32,
+    aim: &Aim,
     z: &mut Search<S>,
     meter: &mut Meter,
     flag: &mut F,
 ) -> Result<Option<LocalFailure>, Halt>
     requires table { table.now ≡ coded.now.design }
-    requires within { prop < length coded.now.design.bads }
-    requires search { IsSearching coded.now prop (state z.old.known z.old.frames z.old.queue
+    requires aim { IsAim coded.now aim.now }
+    requires search { IsSearching coded.now aim.now (state z.old.known z.old.frames z.old.queue
         (S.count z.old.solver) (S.added z.old.solver)) }
     requires room { IsRoom coded.now.design z.old.room.row z.old.room.vals }
-    ensures clears { IfOk result (Clears coded.now prop
+    ensures clears { IfOk result (Clears coded.now aim.now
         (state z.old.known z.old.frames z.old.queue (S.count z.old.solver)
         (S.added z.old.solver))
         (state z.new.known z.new.frames z.new.queue (S.count z.new.solver)
@@ -85,7 +87,7 @@ pub(crate) fn clear<S: Probe, F: Flag>(
     ensures flag { IsPolled F.may_rise F.raised flag.old flag.new }
 {
     while let Some(next) = z.queue.take() {
-        if let Some(failure) = pass(alloc, coded, table, prop, z, next, meter, flag)? {
+        if let Some(failure) = pass(alloc, coded, table, aim, z, next, meter, flag)? {
             return Ok(Some(failure));
         }
     }

@@ -7,6 +7,8 @@ ghost use Rattle.aig_model.specs.Netlist.{circuit};
 ghost use Rattle.sat_plain.specs.Ticks.{IsLater};
 ghost use Rattle.ic3_query.specs.Endings.{IsCharged, OnStopped};
 ghost use Rattle.ic3_query.specs.Questions.{IsRoom};
+ghost use Rattle.ic3_general.specs.Aims.{IsAim};
+ghost use Rattle.ic3_general.specs.declared.aim.Aim.{Aim as AimValue};
 ghost use Rattle.ic3_engine.specs.Searching.{HasClosed};
 ghost use Rattle.ic3_engine.specs.Waiting.{IsWaiting};
 ghost use Rattle.ic3_engine.specs.Turns.{IsSearching, State, state};
@@ -20,7 +22,7 @@ use crate::clearing::clear;
 use crate::descent::descend;
 use crate::outcome::{First, Round};
 use crate::search::Search;
-use ic3_general::{failure_of, lifted_bad};
+use ic3_general::{Aim, failure_of, lifted_bad};
 use ic3_oblig::Obligation;
 use ic3_query::{Halt, ask_bad};
 use ja_base::{Memory, Meter, Row};
@@ -36,23 +38,23 @@ fn first_cube(
     alloc: Global,
     coded: &Coded,
     table: &ResetTable,
-    prop: u32,
+    aim: &Aim,
     top: u32,
     vals: &Row,
 ) -> Result<First, Memory>
     requires table { table.now ≡ coded.now.design }
-    requires within { prop < length coded.now.design.bads }
+    requires aim { IsAim coded.now aim.now }
     requires step { IsValuation (circuit coded.now.design)
         (latch_row (circuit coded.now.design) vals.now)
         (input_row (circuit coded.now.design) vals.now) vals.now }
     requires constrained { MeetsConstraints (circuit coded.now.design) vals.now }
-    requires bad { IsBad (circuit coded.now.design) prop vals.now }
-    ensures first { IfOk result (IsFirst coded.now prop top vals.now) }
+    requires bad { IsBad (circuit coded.now.design) aim.now.prop vals.now }
+    ensures first { IfOk result (IsFirst coded.now aim.now top vals.now) }
 {
     let _task = coded.task();
-    let cube = lifted_bad(alloc, coded, prop, vals)?;
+    let cube = lifted_bad(alloc, coded, aim, vals)?;
     if !table.starts(&cube.clause) {
-        let failure = failure_of(alloc, coded, table, prop, &cube.clause, &cube.chain)?;
+        let failure = failure_of(alloc, coded, table, aim, &cube.clause, &cube.chain)?;
         return Ok(First::Failed(failure));
     }
     Ok(First::Waits(Obligation {
@@ -67,21 +69,21 @@ fn block<S: Probe, F: Flag>(
     alloc: Global,
     coded: &Coded,
     table: &ResetTable,
-    prop: u32,
+    aim: &Aim,
     z: &mut Search<S>,
     first: Obligation,
     meter: &mut Meter,
     flag: &mut F,
 ) -> Result<Option<LocalFailure>, Halt>
     requires table { table.now ≡ coded.now.design }
-    requires within { prop < length coded.now.design.bads }
-    requires search { IsSearching coded.now prop
+    requires aim { IsAim coded.now aim.now }
+    requires search { IsSearching coded.now aim.now
         (state z.old.known z.old.frames z.old.queue (S.count z.old.solver)
         (S.added z.old.solver)) }
     requires room { IsRoom coded.now.design z.old.room.row z.old.room.vals }
-    requires waits { IsWaiting coded.now prop z.old.frames.top first }
+    requires waits { IsWaiting coded.now aim.now z.old.frames.top first }
     requires free { is_blocked z.old.frames.kept first.level first.clause ≡ false }
-    ensures blocked { IfOk result (Blocked coded.now prop
+    ensures blocked { IfOk result (Blocked coded.now aim.now
         (state z.old.known z.old.frames z.old.queue (S.count z.old.solver)
         (S.added z.old.solver)) (state z.new.known z.new.frames z.new.queue (S.count z.new.solver)
         (S.added z.new.solver))) }
@@ -92,10 +94,10 @@ fn block<S: Probe, F: Flag>(
     ensures stopped { OnStopped result (IsFoundRaised F.may_rise F.raised flag.old flag.new) }
     ensures flag { IsPolled F.may_rise F.raised flag.old flag.new }
 {
-    match descend(alloc, coded, table, prop, z, first, meter, flag)? {
+    match descend(alloc, coded, table, aim, z, first, meter, flag)? {
         Some(failure) => Ok(Some(failure)),
         None => {
-            let found = clear(alloc, coded, table, prop, z, meter, flag)?;
+            let found = clear(alloc, coded, table, aim, z, meter, flag)?;
             Ok(found)
         }
     }
@@ -103,8 +105,8 @@ fn block<S: Probe, F: Flag>(
 
 /// What came of a block, as a round.
 fn round_of(found: Option<LocalFailure>) -> Round
-    ensures { (t : VerificationTask) (p : ℕ) (old new : State)
-        → Blocked t p old new found → IsRound t p old new result }
+    ensures { (t : VerificationTask) (a : AimValue) (old new : State)
+        → Blocked t a old new found → IsRound t a old new result }
 {
     match found {
         Some(failure) => Round::Failed(failure),
@@ -117,22 +119,22 @@ fn take_first<S: Probe, F: Flag>(
     alloc: Global,
     coded: &Coded,
     table: &ResetTable,
-    prop: u32,
+    aim: &Aim,
     z: &mut Search<S>,
     first: First,
     meter: &mut Meter,
     flag: &mut F,
 ) -> Result<Round, Halt>
     requires table { table.now ≡ coded.now.design }
-    requires within { prop < length coded.now.design.bads }
-    requires search { IsSearching coded.now prop
+    requires aim { IsAim coded.now aim.now }
+    requires search { IsSearching coded.now aim.now
         (state z.old.known z.old.frames z.old.queue (S.count z.old.solver)
         (S.added z.old.solver)) }
     requires room { IsRoom coded.now.design z.old.room.row z.old.room.vals }
-    requires first { IsFirst coded.now prop z.old.frames.top z.old.room.vals first }
+    requires first { IsFirst coded.now aim.now z.old.frames.top z.old.room.vals first }
     requires level { IsIn (circuit coded.now.design) z.old.frames.kept z.old.frames.top
         (latch_row (circuit coded.now.design) z.old.room.vals) }
-    ensures round { IfOk result (IsRound coded.now prop
+    ensures round { IfOk result (IsRound coded.now aim.now
         (state z.old.known z.old.frames z.old.queue (S.count z.old.solver)
         (S.added z.old.solver)) (state z.new.known z.new.frames z.new.queue (S.count z.new.solver)
         (S.added z.new.solver))) }
@@ -147,7 +149,7 @@ fn take_first<S: Probe, F: Flag>(
     match first {
         First::Failed(failure) => Ok(Round::Failed(failure)),
         First::Waits(first) => {
-            let found = block(alloc, coded, table, prop, z, first, meter, flag)?;
+            let found = block(alloc, coded, table, aim, z, first, meter, flag)?;
             Ok(round_of(found))
         }
     }
@@ -158,19 +160,19 @@ fn take_round<S: Probe, F: Flag>(
     alloc: Global,
     coded: &Coded,
     table: &ResetTable,
-    prop: u32,
+    aim: &Aim,
     z: &mut Search<S>,
     meter: &mut Meter,
     flag: &mut F,
 ) -> Result<Round, Halt>
     requires table { table.now ≡ coded.now.design }
-    requires within { prop < length coded.now.design.bads }
-    requires search { IsSearching coded.now prop
+    requires aim { IsAim coded.now aim.now }
+    requires search { IsSearching coded.now aim.now
         (state z.old.known z.old.frames z.old.queue (S.count z.old.solver)
         (S.added z.old.solver)) }
     requires room { IsRoom coded.now.design z.old.room.row z.old.room.vals }
     requires empty { z.old.queue ≡ [] }
-    ensures round { IfOk result (IsRound coded.now prop
+    ensures round { IfOk result (IsRound coded.now aim.now
         (state z.old.known z.old.frames z.old.queue (S.count z.old.solver)
         (S.added z.old.solver)) (state z.new.known z.new.frames z.new.queue (S.count z.new.solver)
         (S.added z.new.solver))) }
@@ -185,7 +187,7 @@ fn take_round<S: Probe, F: Flag>(
     if !ask_bad(
         alloc,
         coded,
-        prop,
+        aim.prop,
         &mut z.solver,
         &z.frames,
         &z.known,
@@ -196,8 +198,8 @@ fn take_round<S: Probe, F: Flag>(
     )? {
         return Ok(Round::Covered);
     }
-    let first = first_cube(alloc, coded, table, prop, top, &z.room.vals)?;
-    let round = take_first(alloc, coded, table, prop, z, first, meter, flag)?;
+    let first = first_cube(alloc, coded, table, aim, top, &z.room.vals)?;
+    let round = take_first(alloc, coded, table, aim, z, first, meter, flag)?;
     Ok(round)
 }
 
@@ -207,19 +209,19 @@ pub(crate) fn cover<S: Probe, F: Flag>(
     alloc: Global,
     coded: &Coded,
     table: &ResetTable,
-    prop: u32,
+    aim: &Aim,
     z: &mut Search<S>,
     meter: &mut Meter,
     flag: &mut F,
 ) -> Result<Option<LocalFailure>, Halt>
     requires table { table.now ≡ coded.now.design }
-    requires within { prop < length coded.now.design.bads }
-    requires search { IsSearching coded.now prop
+    requires aim { IsAim coded.now aim.now }
+    requires search { IsSearching coded.now aim.now
         (state z.old.known z.old.frames z.old.queue (S.count z.old.solver)
         (S.added z.old.solver)) }
     requires room { IsRoom coded.now.design z.old.room.row z.old.room.vals }
     requires empty { z.old.queue ≡ [] }
-    ensures covers { IfOk result (CoversTop coded.now prop
+    ensures covers { IfOk result (CoversTop coded.now aim.now
         (state z.old.known z.old.frames z.old.queue (S.count z.old.solver)
         (S.added z.old.solver)) (state z.new.known z.new.frames z.new.queue (S.count z.new.solver)
         (S.added z.new.solver))) }
@@ -231,7 +233,7 @@ pub(crate) fn cover<S: Probe, F: Flag>(
     ensures flag { IsPolled F.may_rise F.raised flag.old flag.new }
 {
     loop {
-        match take_round(alloc, coded, table, prop, z, meter, flag)? {
+        match take_round(alloc, coded, table, aim, z, meter, flag)? {
             Round::Covered => return Ok(None),
             Round::Failed(failure) => return Ok(Some(failure)),
             Round::Blocked => {}

@@ -7,6 +7,7 @@ ghost use Rattle.sat_plain.specs.Ticks.{IsLater};
 ghost use Rattle.ic3_frames.specs.Levels.{is_blocked};
 ghost use Rattle.ic3_query.specs.Endings.{IsCharged, OnStopped};
 ghost use Rattle.ic3_query.specs.Questions.{IsRoom};
+ghost use Rattle.ic3_general.specs.Aims.{IsAim};
 ghost use Rattle.ic3_engine.specs.Searching.{HasClosed};
 ghost use Rattle.ic3_engine.specs.Waiting.{IsWaiting};
 ghost use Rattle.ic3_engine.specs.Turns.{Descends, IsSearching, state};
@@ -14,6 +15,7 @@ ghost use Rattle.ic3_engine.specs.Turns.{Descends, IsSearching, state};
 use crate::outcome::Turn;
 use crate::search::Search;
 use crate::turn::take_turn;
+use ic3_general::Aim;
 use ic3_oblig::Obligation;
 use ic3_query::Halt;
 use ja_base::Meter;
@@ -29,20 +31,20 @@ pub(crate) fn descend<S: Probe, F: Flag>(
     alloc: Global,
     coded: &Coded,
     table: &ResetTable,
-    prop: u32,
+    aim: &Aim,
     z: &mut Search<S>,
     first: Obligation,
     meter: &mut Meter,
     flag: &mut F,
 ) -> Result<Option<LocalFailure>, Halt>
     requires table { table.now ≡ coded.now.design }
-    requires within { prop < length coded.now.design.bads }
-    requires search { IsSearching coded.now prop (state z.old.known z.old.frames z.old.queue
+    requires aim { IsAim coded.now aim.now }
+    requires search { IsSearching coded.now aim.now (state z.old.known z.old.frames z.old.queue
         (S.count z.old.solver) (S.added z.old.solver)) }
     requires room { IsRoom coded.now.design z.old.room.row z.old.room.vals }
-    requires waits { IsWaiting coded.now prop z.old.frames.top first }
+    requires waits { IsWaiting coded.now aim.now z.old.frames.top first }
     requires free { is_blocked z.old.frames.kept first.level first.clause ≡ false }
-    ensures descends { IfOk result (Descends coded.now prop first.level
+    ensures descends { IfOk result (Descends coded.now aim.now first.level
         (state z.old.known z.old.frames z.old.queue (S.count z.old.solver)
         (S.added z.old.solver))
         (state z.new.known z.new.frames z.new.queue (S.count z.new.solver)
@@ -56,7 +58,7 @@ pub(crate) fn descend<S: Probe, F: Flag>(
 {
     let mut now = first;
     loop {
-        match take_turn(alloc, coded, table, prop, z, now, meter, flag)? {
+        match take_turn(alloc, coded, table, aim, z, now, meter, flag)? {
             Turn::Done => return Ok(None),
             Turn::Failed(failure) => return Ok(Some(failure)),
             Turn::Lower(next) => now = next,

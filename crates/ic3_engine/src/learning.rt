@@ -5,12 +5,13 @@ ghost use Rattle.ja_base.specs.ClauseSets.{joined};
 ghost use Rattle.aig_model.specs.Task.{problem};
 ghost use Rattle.ic3_query.specs.Questions.{IsRoom};
 ghost use Rattle.ic3_engine.specs.Climbing.{IsEngine};
-ghost use Rattle.ic3_engine.specs.Engines.{IsReady};
+ghost use Rattle.ic3_engine.specs.Engines.{IsReadyFor};
 ghost use Rattle.ic3_engine.specs.Turns.{state};
 
 use crate::engine::Engine;
 use crate::putting::put_known;
 use crate::search::Search;
+use crate::share::Share;
 use ic3_query::import;
 use inv_cert::Closed;
 use ja_base::Memory;
@@ -33,6 +34,8 @@ fn take_up<S: Sat>(
         z.new.queue (S.count z.new.solver) (S.added z.new.solver))) }
     ensures list { OnOk result (z.new.known.list ≡ joined z.old.known.list more.now.clauses) }
     ensures own { z.new.known.own ≡ z.old.known.own }
+    ensures top { z.new.frames.top ≡ z.old.frames.top }
+    ensures queue { z.new.queue ≡ z.old.queue }
     ensures task { problem z.new.known.task ≡ problem coded.now }
     ensures room { IsRoom coded.now.design z.new.room.row z.new.room.vals }
 {
@@ -41,28 +44,47 @@ fn take_up<S: Sat>(
     Ok(())
 }
 
-/// What the list says is known from now on, without a question. A live engine stays live.
-pub fn learn<S: Sat>(
+/// What the store has that was not seen becomes known, without a question.
+pub(crate) fn take_news<S: Sat, H: Share>(
     alloc: Global,
     coded: &Coded,
-    engine: &mut Engine<S>,
+    z: &mut Search<S>,
+    share: &mut H,
+) -> Result<(), Memory>
+    requires share { H.task share.old ≡ problem coded.now }
+    requires engine { IsEngine coded.now (state z.old.known z.old.frames z.old.queue
+        (S.count z.old.solver) (S.added z.old.solver)) }
+    requires room { IsRoom coded.now.design z.old.room.row z.old.room.vals }
+    ensures engine { OnOk result (IsEngine coded.now (state z.new.known z.new.frames
+        z.new.queue (S.count z.new.solver) (S.added z.new.solver))) }
+    ensures top { z.new.frames.top ≡ z.old.frames.top }
+    ensures queue { z.new.queue ≡ z.old.queue }
+    ensures task { problem z.new.known.task ≡ problem coded.now }
+    ensures room { IsRoom coded.now.design z.new.room.row z.new.room.vals }
+    ensures share_task { H.task share.new ≡ H.task share.old }
+    ensures share_later { H.later share.old share.new }
+{
+    if let Some(more) = share.import(alloc)? {
+        take_up(alloc, coded, z, &more)?;
+    }
+    Ok(())
+}
+
+/// What the list says is known from now on, without a question. A live engine stays live.
+pub fn learn<S: Sat, L: Sat>(
+    alloc: Global,
+    coded: &Coded,
+    engine: &mut Engine<S, L>,
     more: &Closed,
 ) -> Result<(), Memory>
     requires more { problem more.now.task ≡ problem coded.now }
-    requires ready { IsReady coded.now (state engine.old.search.known engine.old.search.frames
-        engine.old.search.queue (S.count engine.old.search.solver)
-        (S.added engine.old.search.solver)) engine.old.table engine.old.failed engine.old.live }
-    requires room { IsRoom coded.now.design engine.old.search.room.row
-        engine.old.search.room.vals }
-    ensures ready { IsReady coded.now (state engine.new.search.known engine.new.search.frames
-        engine.new.search.queue (S.count engine.new.search.solver)
-        (S.added engine.new.search.solver)) engine.new.table engine.new.failed engine.new.live }
-    ensures room { IsRoom coded.now.design engine.new.search.room.row
-        engine.new.search.room.vals }
+    requires ready { IsReadyFor S.count S.added coded.now engine.old }
+    ensures ready { IsReadyFor S.count S.added coded.now engine.new }
     ensures list { OnOk result (engine.new.search.known.list
         ≡ joined engine.old.search.known.list more.now.clauses) }
     ensures own { engine.new.search.known.own ≡ engine.old.search.known.own }
     ensures live { OnOk result (engine.new.live ≡ engine.old.live) }
+    ensures top { engine.new.search.frames.top ≡ engine.old.search.frames.top }
     ensures failed { engine.new.failed ≡ engine.old.failed }
 {
     if engine.live {

@@ -2,6 +2,9 @@
 //! levels stands in `specs/Searching`, what waits in `specs/Waiting`.
 #![tactic(auto)]
 
+mod advancing;
+mod aiming;
+mod ascending;
 mod clearing;
 mod climbing;
 mod closing;
@@ -22,12 +25,14 @@ mod search;
 mod seeking;
 mod settling;
 mod share;
+mod simulating;
 mod starting;
 #[cfg(test)]
 mod tests;
 mod turn;
 mod viewing;
 
+pub use advancing::advance;
 pub use engine::{Engine, prove};
 pub use found::Found;
 pub use learning::learn;

@@ -18,7 +18,7 @@ ghost use Rattle.ic3_engine.specs.Turns.{state};
 use crate::closing::proved_by;
 use crate::engine::{Engine, engine_over};
 use crate::found::Found;
-use crate::learning::learn;
+use crate::learning::take_news;
 use crate::own::prove_own;
 use crate::proved::ProvedList;
 use crate::share::Share;
@@ -41,52 +41,6 @@ pub enum LocalAnswer {
     /// The flag was found raised.
     Stopped,
     Memory,
-}
-
-/// What the store has that was not seen becomes known.
-fn take_news<S: Sat, H: Share>(
-    alloc: Global,
-    coded: &Coded,
-    engine: &mut Engine<S>,
-    share: &mut H,
-) -> Result<(), Memory>
-    requires ready { IsReady coded.now (state engine.old.search.known engine.old.search.frames
-        engine.old.search.queue (S.count engine.old.search.solver)
-        (S.added engine.old.search.solver)) engine.old.table engine.old.failed engine.old.live }
-    requires room { IsRoom coded.now.design engine.old.search.room.row
-        engine.old.search.room.vals }
-    requires share { H.task share.old ≡ problem coded.now }
-    ensures ready { IsReady coded.now (state engine.new.search.known engine.new.search.frames
-        engine.new.search.queue (S.count engine.new.search.solver)
-        (S.added engine.new.search.solver)) engine.new.table engine.new.failed engine.new.live }
-    ensures room { IsRoom coded.now.design engine.new.search.room.row
-        engine.new.search.room.vals }
-    ensures share_task { H.task share.new ≡ H.task share.old }
-    ensures share_later { H.later share.old share.new }
-{
-    if let Some(more) = share.import(alloc)? {
-        learn(alloc, coded, engine, &more)?;
-    }
-    Ok(())
-}
-
-/// What was proved goes to the store.
-fn give_away<H: Share>(
-    alloc: Global,
-    coded: &Coded,
-    prop: u32,
-    found: &Found,
-    share: &mut H,
-) -> Result<(), Memory>
-    requires found { IsFoundOf coded.now prop found.now }
-    requires share { H.task share.old ≡ problem coded.now }
-    ensures share_task { H.task share.new ≡ H.task share.old }
-    ensures share_later { H.later share.old share.new }
-{
-    if let Found::Proved(proved) = found {
-        share.publish(alloc, &proved.list)?;
-    }
-    Ok(())
 }
 
 /// A search over a solver that has the design and what is known.
@@ -113,11 +67,9 @@ fn search<S: Probe, L: Sat, F: Flag, H: Share>(
     ensures share_task { H.task share.new ≡ H.task share.old }
     ensures share_later { H.later share.old share.new }
 {
-    let mut engine = engine_over(alloc, coded, solver, known)?;
-    take_news(alloc, coded, &mut engine, share)?;
-    let found = prove_own::<S, L, F>(alloc, coded, prop, &mut engine, meter, flag)?;
-    give_away(alloc, coded, prop, &found, share)?;
-    Ok(found)
+    let mut engine: Engine<S, L> = engine_over(alloc, coded, solver, known)?;
+    take_news(alloc, coded, &mut engine.search, share)?;
+    prove_own(alloc, coded, prop, &mut engine, meter, flag, share)
 }
 
 /// The list alone is asked first, before a level is opened.
@@ -154,7 +106,7 @@ fn find<S: Probe, L: Sat, F: Flag, H: Share>(
 }
 
 /// Whether the property is covered by a closed list or fails locally. One question asks whether the view covers it; else an engine
-/// that starts from the view takes what the share has, and searches. What is proved is published.
+/// that starts from the view takes what the share has, and searches. What was closed is published.
 pub fn prove_local<S: Probe, L: Sat, F: Flag, H: Share>(
     alloc: Global,
     coded: &Coded,

@@ -28,3 +28,13 @@ pub(crate) enum Round {
     /// One cube of rows that do, and all that leads to it, is blocked.
     Blocked,
 }
+
+/// What comes of the search at one top.
+#[derive(Drop)]
+pub(crate) enum Ascent {
+    Failed(LocalFailure),
+    /// What is known covers the property.
+    Covered,
+    /// The top is one higher.
+    Higher,
+}

@@ -2,10 +2,10 @@
 
 ghost use Rattle.std.specs.Prelude.{◌≡◌, ◌<◌, length, IfOk, IfSome};
 ghost use Rattle.aig_model.specs.Task.{problem};
-ghost use Rattle.ic3_query.specs.Questions.{IsRoom};
-ghost use Rattle.ic3_engine.specs.Engines.{IsReady};
-ghost use Rattle.ic3_engine.specs.Turns.{state};
+ghost use Rattle.ic3_engine.specs.Engines.{IsReadyFor};
+ghost use Rattle.ic3_engine.specs.Found.{IsFound};
 
+use crate::own::prove_own;
 use crate::{Engine, Found, LocalAnswer, NoShare, prove, prove_local};
 use aig_model::{Expect, Task};
 use aiger_ascii::read_ascii;
@@ -23,8 +23,6 @@ use std::test::Fail;
 enum Mark {
     Proved,
     Fails,
-    /// A failure of another property, which whole rows never give.
-    Other,
     Halted(Halt),
 }
 
@@ -39,6 +37,15 @@ const RING: &[u8] = b"aag 6 0 3 0 3 3\n2 6 1\n4 2\n6 4\n8\n10\n12\n8 4 2\n10 6 4
 /// An arbiter with two grants, of which the second needs that the first was not asked for: both are never given, and the second
 /// is.
 const GRANTS: &[u8] = b"aag 6 2 2 1 2 2\n2\n4\n6 2\n8 10\n8\n12\n8\n10 4 3\n12 8 6\n";
+
+/// A latch that keeps the value with which it starts, and one that takes the input.
+const FREE: &[u8] = b"aag 3 1 2 0 0 2\n2\n4 4 4\n6 2\n4\n6\n";
+
+/// A chain of 24 latches: the first is 1 from step 1 on, each other one a step after the one before it.
+const CHAIN: &[u8] =
+    b"aag 24 0 24 0 0 1\n2 1\n4 2\n6 4\n8 6\n10 8\n12 10\n14 12\n16 14\n18 16\n20 18\n\
+    22 20\n24 22\n26 24\n28 26\n30 28\n32 30\n34 32\n36 34\n38 36\n40 38\n42 40\n\
+    44 42\n46 44\n48 46\n48\n";
 
 /// A design, the properties that are expected to fail, and what comes of each.
 type Row = (&'static [u8], [bool; 3], &'static [Mark]);
@@ -100,55 +107,80 @@ fn coded(alloc: Global, text: &[u8], failing: [bool; 3]) -> Option<Coded> {
 }
 
 /// An engine that knows nothing yet.
-fn engine<S: Probe>(alloc: Global, coded: &Coded) -> Result<Engine<S>, Memory>
-    ensures ready { IfOk result (λ engine. IsReady coded.now (state engine.search.known
-        engine.search.frames engine.search.queue (S.count engine.search.solver)
-        (S.added engine.search.solver)) engine.table engine.failed engine.live) }
-    ensures room { IfOk result (λ engine.
-        IsRoom coded.now.design engine.search.room.row engine.search.room.vals) }
+fn engine<S: Probe>(alloc: Global, coded: &Coded) -> Result<Engine<S, S>, Memory>
+    ensures { IfOk result (IsReadyFor S.count S.added coded.now) }
 {
     let view = Closed::empty(alloc, coded.task())?;
     let engine = Engine::new(alloc, coded, &view)?;
     Ok(engine)
 }
 
-fn mark_of(found: &Found, prop: u32) -> Mark {
-    match found {
-        Found::Proved(_) => Proved,
-        Found::Fails(failure) => {
-            if failure.prop() == prop {
-                Fails
-            } else {
-                Mark::Other
-            }
-        }
-    }
-}
-
 fn outcome<S: Probe, F: Flag>(
     alloc: Global,
     coded: &Coded,
     prop: u32,
-    engine: &mut Engine<S>,
+    engine: &mut Engine<S, S>,
     meter: &mut Meter,
     flag: &mut F,
 ) -> Mark
     requires within { prop < length coded.now.design.bads }
-    requires ready { IsReady coded.now (state engine.old.search.known engine.old.search.frames
-        engine.old.search.queue (S.count engine.old.search.solver)
-        (S.added engine.old.search.solver)) engine.old.table engine.old.failed engine.old.live }
-    requires room { IsRoom coded.now.design engine.old.search.room.row
-        engine.old.search.room.vals }
-    ensures ready { IsReady coded.now (state engine.new.search.known engine.new.search.frames
-        engine.new.search.queue (S.count engine.new.search.solver)
-        (S.added engine.new.search.solver)) engine.new.table engine.new.failed engine.new.live }
-    ensures room { IsRoom coded.now.design engine.new.search.room.row
-        engine.new.search.room.vals }
+    requires ready { IsReadyFor S.count S.added coded.now engine.old }
+    ensures ready { IsReadyFor S.count S.added coded.now engine.new }
 {
-    match prove::<S, S, F>(alloc, coded, prop, engine, meter, flag) {
-        Ok(found) => mark_of(&found, prop),
+    let Ok(task) = coded.task().share() else {
+        return Mark::Halted(Halt::Memory);
+    };
+    let mut share = NoShare::new(task);
+    match prove_own(alloc, coded, prop, engine, meter, flag, &mut share) {
+        Ok(Found::Proved(_)) => Proved,
+        Ok(Found::Fails(_)) => Fails,
         Err(halt) => Mark::Halted(halt),
     }
+}
+
+/// What the engine finds where it is asked once.
+fn found<S: Probe>(
+    alloc: Global,
+    coded: &Coded,
+    prop: u32,
+    engine: &mut Engine<S, S>,
+) -> Result<Found, Fail>
+    requires within { prop < length coded.now.design.bads }
+    requires ready { IsReadyFor S.count S.added coded.now engine.old }
+    ensures found { IfOk result (IsFound coded.now prop engine.old.failed) }
+    ensures ready { IsReadyFor S.count S.added coded.now engine.new }
+{
+    let mut share = NoShare::new(coded.task().share()?);
+    let mut meter = Meter::new(None);
+    match prove(
+        alloc,
+        coded,
+        prop,
+        engine,
+        &mut meter,
+        &mut NoFlag,
+        &mut share,
+    ) {
+        Ok(found) => Ok(found),
+        Err(_) => Err("halted".into()),
+    }
+}
+
+/// The property of the failure that is found where this one is asked for once, and its steps.
+fn first_broken<S: Probe>(
+    alloc: Global,
+    coded: &Coded,
+    prop: u32,
+    engine: &mut Engine<S, S>,
+) -> Result<(u32, u32), Fail>
+    requires within { prop < length coded.now.design.bads }
+    requires ready { IsReadyFor S.count S.added coded.now engine.old }
+    ensures ready { IsReadyFor S.count S.added coded.now engine.new }
+{
+    let Found::Fails(failure) = found::<S>(alloc, coded, prop, engine)? else {
+        return Err("no failure".into());
+    };
+    Ok((failure.prop(), failure.stim().inputs().len()))
 }
 
 /// Whether the properties come out so, one after another on one engine.
@@ -158,7 +190,7 @@ fn are_marked<S: Probe>(
     reversed: bool,
     expected: &[Mark],
 ) -> Result<bool, Memory> {
-    let mut engine: Engine<S> = engine(alloc, coded)?;
+    let mut engine: Engine<S, S> = engine(alloc, coded)?;
     let props = coded.task().design().props();
     for at in 0..props {
         let prop = if reversed { props - 1 - at } else { at };
@@ -236,7 +268,7 @@ fn marks_worked_designs(rt: HostRuntime) -> Result<(), Fail> {
 fn goes_on_behind_a_halt(rt: HostRuntime) -> Result<(), Fail> {
     let alloc = rt.alloc();
     let coded = coded(alloc, RING, [false; 3]).ok_or("no design")?;
-    let mut engine: Engine<PlainSat> = engine(alloc, &coded)?;
+    let mut engine: Engine<PlainSat, PlainSat> = engine(alloc, &coded)?;
     if coded.task().design().props() == 3 {
         let mut meter = Meter::new(Some(1));
         let spent = outcome(alloc, &coded, 0, &mut engine, &mut meter, &mut NoFlag);
@@ -263,18 +295,10 @@ fn goes_on_behind_a_halt(rt: HostRuntime) -> Result<(), Fail> {
 fn ends_where_the_list_covers(rt: HostRuntime) -> Result<(), Fail> {
     let alloc = rt.alloc();
     let coded = coded(alloc, RING, [false; 3]).ok_or("no design")?;
-    let mut engine: Engine<PlainSat> = engine(alloc, &coded)?;
+    let mut engine: Engine<PlainSat, PlainSat> = engine(alloc, &coded)?;
     if coded.task().design().props() == 3 {
-        let mut meter = Meter::new(None);
-        let found = prove::<PlainSat, PlainSat, NoFlag>(
-            alloc,
-            &coded,
-            0,
-            &mut engine,
-            &mut meter,
-            &mut NoFlag,
-        );
-        let Ok(Found::Proved(proved)) = found else {
+        let found = found::<PlainSat>(alloc, &coded, 0, &mut engine)?;
+        let Found::Proved(proved) = found else {
             return Err("not proved".into());
         };
         for (limit, expected) in [(1, Mark::Halted(Halt::Spent)), (2, Proved)] {
@@ -307,25 +331,47 @@ fn ends_where_the_list_covers(rt: HostRuntime) -> Result<(), Fail> {
 fn finds_a_failure_below_the_top(rt: HostRuntime) -> Result<(), Fail> {
     let alloc = rt.alloc();
     let coded = coded(alloc, TWO, [true, true, false]).ok_or("no design")?;
-    let mut engine: Engine<PlainSat> = engine(alloc, &coded)?;
+    let mut engine: Engine<PlainSat, PlainSat> = engine(alloc, &coded)?;
     if coded.task().design().props() == 2 {
         let mut meter = Meter::new(None);
         let longer = outcome(alloc, &coded, 1, &mut engine, &mut meter, &mut NoFlag);
         assert_eq!(rt; longer, Fails);
         assert!(rt; engine.search.frames.top() >= 2);
-        let found = prove::<PlainSat, PlainSat, NoFlag>(
-            alloc,
-            &coded,
-            0,
-            &mut engine,
-            &mut meter,
-            &mut NoFlag,
-        );
-        let Ok(Found::Fails(failure)) = found else {
+        let found = found::<PlainSat>(alloc, &coded, 0, &mut engine)?;
+        let Found::Fails(failure) = found else {
             return Err("no failure".into());
         };
         assert_eq!(rt; failure.prop(), 0);
         assert_eq!(rt; failure.stim().inputs().len(), 2);
     }
+    Ok(())
+}
+
+// The first latch may be 1 at the start, and then b0 fails there. The way to a failure of b1 is lifted to rows in which it is.
+#[test]
+fn tells_what_the_way_breaks_first(rt: HostRuntime) -> Result<(), Fail> {
+    let alloc = rt.alloc();
+    let coded = coded(alloc, FREE, [false; 3]).ok_or("no design")?;
+    let mut engine: Engine<PlainSat, PlainSat> = engine(alloc, &coded)?;
+    if coded.task().design().props() == 2 {
+        let first = first_broken::<PlainSat>(alloc, &coded, 1, &mut engine)?;
+        assert_eq!(rt; first, (0, 1));
+        let second = first_broken::<PlainSat>(alloc, &coded, 1, &mut engine)?;
+        assert_eq!(rt; second, (1, 2));
+    }
+    Ok(())
+}
+
+// The last latch is 1 from step 24 on. The levels rise to 16, where a random run meets what they would reach at 24.
+#[test]
+fn looks_at_random_runs_where_the_top_is_high(rt: HostRuntime) -> Result<(), Fail> {
+    let alloc = rt.alloc();
+    let coded = coded(alloc, CHAIN, [false; 3]).ok_or("no design")?;
+    let mut engine: Engine<PlainSat, PlainSat> = engine(alloc, &coded)?;
+    if coded.task().design().props() == 1 {
+        let broken = first_broken::<PlainSat>(alloc, &coded, 0, &mut engine)?;
+        assert_eq!(rt; broken, (0, 25));
+    }
+    assert_eq!(rt; engine.search.frames.top(), 16);
     Ok(())
 }

@@ -20,13 +20,14 @@ ghost use Rattle.ic3_engine.specs.Waiting.{AreWaiting, IsWaiting};
 ghost use Rattle.ic3_engine.specs.Turns.{Blocks, IsSearching, state};
 ghost use Rattle.ic3_engine.specs.Answers.{IsTurn};
 ghost use Rattle.ic3_engine.specs.Lowering.{IsLowering};
-ghost use Rattle.ic3_general.specs.Chains.{AllLead};
+ghost use Rattle.ic3_general.specs.Aims.{IsAim, LeadsOn};
+ghost use Rattle.ic3_general.specs.declared.aim.Aim.{Aim as AimValue};
 
 use crate::good::for_good;
 use crate::outcome::Turn;
 use crate::search::Search;
 use crate::settling::{settle, settle_good};
-use ic3_general::{failure_of, lifted, shrink};
+use ic3_general::{Aim, failure_of, lifted, shrink};
 use ic3_oblig::{Obligation, Queue};
 use ic3_query::{Asked, Halt, ask};
 use ja_base::{Clause, Memory, Meter, Row};
@@ -37,8 +38,8 @@ use std::alloc::Global;
 
 /// A cube that was blocked waits again one level higher, if there is one.
 fn put_again(queue: &mut Queue, top: u32, now: Obligation) -> Result<(), Memory>
-    ensures waiting { (t : VerificationTask) (p : ℕ) → IsWaiting t p top now
-        → AreWaiting t p top queue.old → AreWaiting t p top queue.new }
+    ensures waiting { (t : VerificationTask) (a : AimValue) → IsWaiting t a top now
+        → AreWaiting t a top queue.old → AreWaiting t a top queue.new }
     ensures longer { length queue.new ≤ length queue.old + 1 }
 {
     if now.level < top {
@@ -57,15 +58,15 @@ fn lower(
     alloc: Global,
     coded: &Coded,
     table: &ResetTable,
-    prop: u32,
+    aim: &Aim,
     queue: &mut Queue,
     vals: &Row,
     now: Obligation,
 ) -> Result<Turn, Memory>
-    requires within { prop < length coded.now.design.bads }
+    requires aim { IsAim coded.now aim.now }
     requires table { table.now ≡ coded.now.design }
     requires low { 1 ≤ now.level }
-    requires leads { AllLead (problem coded.now) prop now.clause now.chain }
+    requires leads { LeadsOn coded.now aim.now now.clause now.chain }
     requires step { IsValuation (circuit coded.now.design)
         (latch_row (circuit coded.now.design) vals.now)
         (input_row (circuit coded.now.design) vals.now) vals.now }
@@ -74,12 +75,12 @@ fn lower(
     requires later { list_any (latch_value (circuit coded.now.design).latches
         (next_state (circuit coded.now.design) vals.now)) now.clause ≡ false }
     ensures turn { IfOk result
-        (IsLowering coded.now prop now queue.old queue.new vals.now) }
+        (IsLowering coded.now aim.now now queue.old queue.new vals.now) }
 {
     let _task = coded.task();
-    let earlier = lifted(alloc, coded, vals, &now.clause, &now.chain)?;
+    let earlier = lifted(alloc, coded, aim, vals, &now.clause, &now.chain)?;
     if !table.starts(&earlier.clause) {
-        let failure = failure_of(alloc, coded, table, prop, &earlier.clause, &earlier.chain)?;
+        let failure = failure_of(alloc, coded, table, aim, &earlier.clause, &earlier.chain)?;
         return Ok(Turn::Failed(failure));
     }
     let level = now.level - 1;
@@ -97,7 +98,7 @@ fn finish<S: Probe, F: Flag>(
     alloc: Global,
     coded: &Coded,
     table: &ResetTable,
-    prop: u32,
+    aim: &Aim,
     z: &mut Search<S>,
     part: Clause,
     now: Obligation,
@@ -105,17 +106,17 @@ fn finish<S: Probe, F: Flag>(
     flag: &mut F,
 ) -> Result<(), Halt>
     requires table { table.now ≡ coded.now.design }
-    requires search { IsSearching coded.now prop
+    requires search { IsSearching coded.now aim.now
         (state z.old.known z.old.frames z.old.queue (S.count z.old.solver)
         (S.added z.old.solver)) }
     requires room { IsRoom coded.now.design z.old.room.row z.old.room.vals }
-    requires waits { IsWaiting coded.now prop z.old.frames.top now }
+    requires waits { IsWaiting coded.now aim.now z.old.frames.top now }
     requires free { is_blocked z.old.frames.kept now.level now.clause ≡ false }
     requires part { is_part part now.clause ≡ true }
     requires own { is_foreign (circuit coded.now.design) part ≡ false }
     requires begins { starts (circuit coded.now.design) part ≡ true }
     requires kept { IsKeptAt coded.now (all_of z.old.known) z.old.frames (now.level - 1) part }
-    ensures blocks { OnOk result (Blocks coded.now prop 1
+    ensures blocks { OnOk result (Blocks coded.now aim.now 1
         (state z.old.known z.old.frames z.old.queue (S.count z.old.solver)
         (S.added z.old.solver)) (state z.new.known z.new.frames z.new.queue (S.count z.new.solver)
         (S.added z.new.solver))) }
@@ -170,21 +171,21 @@ fn at_level<S: Probe, F: Flag>(
     alloc: Global,
     coded: &Coded,
     table: &ResetTable,
-    prop: u32,
+    aim: &Aim,
     z: &mut Search<S>,
     now: Obligation,
     meter: &mut Meter,
     flag: &mut F,
 ) -> Result<Turn, Halt>
     requires table { table.now ≡ coded.now.design }
-    requires within { prop < length coded.now.design.bads }
-    requires search { IsSearching coded.now prop
+    requires aim { IsAim coded.now aim.now }
+    requires search { IsSearching coded.now aim.now
         (state z.old.known z.old.frames z.old.queue (S.count z.old.solver)
         (S.added z.old.solver)) }
     requires room { IsRoom coded.now.design z.old.room.row z.old.room.vals }
-    requires waits { IsWaiting coded.now prop z.old.frames.top now }
+    requires waits { IsWaiting coded.now aim.now z.old.frames.top now }
     requires free { is_blocked z.old.frames.kept now.level now.clause ≡ false }
-    ensures turn { IfOk result (IsTurn coded.now prop now.level
+    ensures turn { IfOk result (IsTurn coded.now aim.now now.level
         (state z.old.known z.old.frames z.old.queue (S.count z.old.solver)
         (S.added z.old.solver)) (state z.new.known z.new.frames z.new.queue (S.count z.new.solver)
         (S.added z.new.solver))) }
@@ -209,7 +210,7 @@ fn at_level<S: Probe, F: Flag>(
         flag,
     )? {
         Asked::Before => {
-            let turn = lower(alloc, coded, table, prop, &mut z.queue, &z.room.vals, now)?;
+            let turn = lower(alloc, coded, table, aim, &mut z.queue, &z.room.vals, now)?;
             Ok(turn)
         }
         Asked::Blocked(core) => {
@@ -227,7 +228,7 @@ fn at_level<S: Probe, F: Flag>(
                 meter,
                 flag,
             )?;
-            finish(alloc, coded, table, prop, z, part, now, meter, flag)?;
+            finish(alloc, coded, table, aim, z, part, now, meter, flag)?;
             Ok(Turn::Done)
         }
     }
@@ -238,21 +239,21 @@ pub(crate) fn take_turn<S: Probe, F: Flag>(
     alloc: Global,
     coded: &Coded,
     table: &ResetTable,
-    prop: u32,
+    aim: &Aim,
     z: &mut Search<S>,
     now: Obligation,
     meter: &mut Meter,
     flag: &mut F,
 ) -> Result<Turn, Halt>
     requires table { table.now ≡ coded.now.design }
-    requires within { prop < length coded.now.design.bads }
-    requires search { IsSearching coded.now prop
+    requires aim { IsAim coded.now aim.now }
+    requires search { IsSearching coded.now aim.now
         (state z.old.known z.old.frames z.old.queue (S.count z.old.solver)
         (S.added z.old.solver)) }
     requires room { IsRoom coded.now.design z.old.room.row z.old.room.vals }
-    requires waits { IsWaiting coded.now prop z.old.frames.top now }
+    requires waits { IsWaiting coded.now aim.now z.old.frames.top now }
     requires free { is_blocked z.old.frames.kept now.level now.clause ≡ false }
-    ensures turn { IfOk result (IsTurn coded.now prop now.level
+    ensures turn { IfOk result (IsTurn coded.now aim.now now.level
         (state z.old.known z.old.frames z.old.queue (S.count z.old.solver)
         (S.added z.old.solver)) (state z.new.known z.new.frames z.new.queue (S.count z.new.solver)
         (S.added z.new.solver))) }
@@ -287,7 +288,7 @@ pub(crate) fn take_turn<S: Probe, F: Flag>(
             Ok(Turn::Done)
         }
         None => {
-            let turn = at_level(alloc, coded, table, prop, z, now, meter, flag)?;
+            let turn = at_level(alloc, coded, table, aim, z, now, meter, flag)?;
             Ok(turn)
         }
     }

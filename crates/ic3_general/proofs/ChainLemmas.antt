@@ -1,16 +1,13 @@
 -- Chains of one step, of one step more, and a chain from an initial row.
-use Rattle.std.proofs.Common.{◌≡◌, ℕ, Bool, false, List, [], ◌∷◌, ◌++◌, length, sym, ap, ◌∙◌, subst, arith}
+use Rattle.std.proofs.Common.{◌≡◌, ℕ, Bool, List, [], ◌∷◌, ◌++◌, length, sym, ap, ◌∙◌, arith}
 use Rattle.std.specs.Prelude.{All}
-use Rattle.std.specs.List.{list_any}
 use Rattle.std.proofs.lemmas.List.{length-append, length-map}
 use Rattle.std.proofs.lemmas.List.Elements.{All-nil, All-cons}
 use Rattle.ja_base.specs.Literals.{bit}
 use Rattle.ja_base.specs.Circuit.{Circuit, Problem}
-use Rattle.ja_base.specs.Invariants.{latch_value}
 use Rattle.ja_base.specs.Runs.{IsInitial, IsRun, IsLocalFailure}
-use Rattle.ja_base.specs.Valuation.{IsBad, IsValuation, MeetsConstraints, AssumptionsHold, latch_row, input_row, next_state}
-use Rattle.ic3_general.specs.Cubes.{IsOutside}
-use Rattle.ic3_general.specs.Chains.{AllLead, Leads}
+use Rattle.ja_base.specs.Valuation.{IsBad, IsValuation, MeetsConstraints, AssumptionsHold, next_state}
+use Rattle.ic3_general.specs.Chains.{Leads}
 
 pub leads_last : (t : Problem) (p : ℕ) (s x v : List Bool) → IsValuation t.circuit s x v → MeetsConstraints t.circuit v
     → IsBad t.circuit p v → Leads t p s (x ∷ [])
@@ -62,26 +59,3 @@ run_widths c s (x ∷ xs) [] runs = absurd runs
 run_widths c s (x ∷ xs) (v ∷ vs) runs =
     All-cons (λ row. length row ≡ length c.inputs) x xs (sym (ap length runs.0.inputs) ∙ length-map c.inputs (bit v))
     (run_widths c (next_state c v) xs vs runs.1)
-
--- the cube of one row leads where its row does
-pub all_lead_back : (t : Problem) (p : ℕ) (v : List Bool) (clause lifted : List ℕ) (chain : List (List Bool))
-    → IsValuation t.circuit (latch_row t.circuit v) (input_row t.circuit v) v → MeetsConstraints t.circuit v
-    → AssumptionsHold t.circuit t.assumed v → list_any (latch_value t.circuit.latches (next_state t.circuit v)) clause ≡ false
-    → ((s : List Bool) → IsOutside t.circuit lifted s → s ≡ latch_row t.circuit v) → AllLead t p clause chain
-    → AllLead t p lifted (input_row t.circuit v ∷ chain)
-all_lead_back t p v clause lifted chain step constrained held later only leads s out =
-    let next : IsOutside t.circuit clause (next_state t.circuit v) = record {
-      width = length-map t.circuit.latches _;
-      unmet = later;
-    } in
-    subst (λ r. Leads t p r (input_row t.circuit v ∷ chain)) (sym (only s out))
-    (leads_back t p (latch_row t.circuit v) (input_row t.circuit v) v chain step constrained held
-    (leads (next_state t.circuit v) next))
-
-pub all_lead_last : (t : Problem) (p : ℕ) (v : List Bool) (lifted : List ℕ)
-    → IsValuation t.circuit (latch_row t.circuit v) (input_row t.circuit v) v → MeetsConstraints t.circuit v
-    → IsBad t.circuit p v → ((s : List Bool) → IsOutside t.circuit lifted s → s ≡ latch_row t.circuit v)
-    → AllLead t p lifted (input_row t.circuit v ∷ [])
-all_lead_last t p v lifted step constrained bad only s out =
-    subst (λ r. Leads t p r (input_row t.circuit v ∷ [])) (sym (only s out))
-    (leads_last t p (latch_row t.circuit v) (input_row t.circuit v) v step constrained bad)

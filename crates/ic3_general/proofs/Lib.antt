@@ -1,6 +1,7 @@
 pub mod RowLemmas
 pub mod CubeLemmas
 pub mod ChainLemmas
+pub mod EarlyLemmas
 pub mod SureLemmas
 pub mod RangeLemmas
 pub mod LeafLemmas

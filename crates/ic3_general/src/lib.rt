@@ -4,6 +4,7 @@
 //! blocked (`specs/Shrinking`).
 #![tactic(auto)]
 
+mod aim;
 mod cutting;
 mod dropping;
 mod failing;
@@ -16,6 +17,7 @@ mod targets;
 #[cfg(test)]
 mod tests;
 
+pub use aim::Aim;
 pub use dropping::lift;
 pub use failing::failure_of;
 pub use lifting::{Cube, lifted, lifted_bad};

@@ -3,10 +3,11 @@
 ghost use Rattle.std.specs.Prelude.{◌≡◌, ◌+◌, ◌<◌, ◌++◌, ◌∷◌, ℕ, Bool, List, true, false, length, slice_index, IfOk, OnOk};
 ghost use Rattle.ja_base.specs.Literals.{variable};
 ghost use Rattle.ja_base.specs.Clauses.{IsBelow};
-ghost use Rattle.ja_project.specs.CodedClauses.{held_literals, negated_next, next_literal, with_sign_of};
+ghost use Rattle.ja_project.specs.CodedClauses.{held_literals, held_literals_of, negated_next, next_literal, with_sign_of};
+ghost use Rattle.ic3_general.specs.Aims.{respecting};
 
 use aig_model::Design;
-use ja_base::{Clause, Lit, Lits, Memory};
+use ja_base::{Clause, Lit, Lits, Memory, Row};
 use ja_project::Coded;
 use std::alloc::Global;
 
@@ -47,26 +48,48 @@ fn push_constraints(design: &Design, lits: &mut Lits) -> Result<(), Memory>
     Ok(())
 }
 
-fn push_all(more: &[Lit], lits: &mut Lits) -> Result<(), Memory>
-    ensures { OnOk result (lits.new ≡ lits.old ++ more.now) }
+fn push_good(coded: &Coded, respect: &Row, prop: u32, lits: &mut Lits) -> Result<(), Memory>
+    requires within { prop < length coded.now.design.bads }
+    requires wide { length respect.now ≡ length coded.now.design.bads }
+    ensures { OnOk result (lits.new
+        ≡ lits.old ++ held_literals_of (respecting coded.now respect.now) prop) }
 {
-    for lit in more {
-        lits.push(*lit)?;
+    if respect.get(prop) {
+        lits.push(coded.bad(prop).not())?;
     }
     Ok(())
 }
 
-/// That the next latch row falsifies the clause, and that the step meets the constraints and breaks no assumed property.
-pub(crate) fn step_target(alloc: Global, coded: &Coded, clause: &Clause) -> Result<Lits, Memory>
+fn push_respected(coded: &Coded, respect: &Row, lits: &mut Lits) -> Result<(), Memory>
+    requires { length respect.now ≡ length coded.now.design.bads }
+    ensures { OnOk result
+        (lits.new ≡ lits.old ++ held_literals (respecting coded.now respect.now)) }
+{
+    for prop in 0..coded.task().design().props() {
+        push_good(coded, respect, prop, lits)?;
+    }
+    Ok(())
+}
+
+/// That the next latch row falsifies the clause, and that the step meets the constraints and breaks no property that is to be
+/// respected.
+pub(crate) fn step_target(
+    alloc: Global,
+    coded: &Coded,
+    respect: &Row,
+    clause: &Clause,
+) -> Result<Lits, Memory>
+    requires { length respect.now ≡ length coded.now.design.bads }
     ensures value { IfOk result (λ lits. lits ≡ (negated_next coded.now.design clause.now
-        ++ coded.now.design.constraints) ++ held_literals coded.now) }
+        ++ coded.now.design.constraints)
+        ++ held_literals (respecting coded.now respect.now)) }
     ensures below { IfOk result (IsBelow (coded.now.design.vars + 1)) }
 {
     let design = coded.task().design();
     let mut lits = Lits::new(alloc);
     push_nexts(design, clause, &mut lits)?;
     push_constraints(design, &mut lits)?;
-    push_all(coded.held(), &mut lits)?;
+    push_respected(coded, respect, &mut lits)?;
     Ok(lits)
 }
 

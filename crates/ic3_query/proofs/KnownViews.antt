@@ -7,10 +7,10 @@ use Rattle.ja_base.specs.Invariants.{IsInductive}
 use Rattle.aig_model.specs.Netlist.{circuit}
 use Rattle.aig_model.specs.Task.{VerificationTask, problem}
 use Rattle.ja_project.specs.Latches.{is_foreign}
-use Rattle.inv_cert.specs.Closed.{IsClosed}
+use Rattle.inv_cert.specs.Closed.{ClosedList, IsClosed}
 use Rattle.inv_cert.specs.Proofs.{IsCandidate}
 use Rattle.ic3_query.specs.Known.{KnownList, AreOwn, IsKnown, IsForGood, all_of}
-use Rattle.ic3_query.proofs.KnownLemmas.{known_joined, known_extended, known_imported, are_candidates}
+use Rattle.ic3_query.proofs.KnownLemmas.{known_joined, known_extended, known_imported, known_closed, are_candidates}
 
 module _ (k : KnownList) (task : VerificationTask) (list own : List (List ℕ))
     (view : ◌≡◌ {A = KnownList} (record { task = task; list = list; own = own }) k)
@@ -48,3 +48,12 @@ module _ (k : KnownList) (task : VerificationTask) (list own : List (List ℕ))
       let there : problem task ≡ problem t = ap (λ (k : KnownList). problem k.task) view ∙ same in
       let P : Problem → Type 0 = λ p. IsKnown p (list ++ own) in
       are_candidates t list own (subst P there h)
+
+  pub close_view : (t : VerificationTask) (after : ClosedList) (left : List (List ℕ)) → problem k.task ≡ problem t
+      → after ≡ record { task = t; clauses = joined list own } → left ≡ [] → IsKnown (problem after.task) (after.clauses ++ left)
+  close_view t after left same is none =
+      let there : problem task ≡ problem t = ap (λ (k : KnownList). problem k.task) view ∙ same in
+      let P : Problem → Type 0 = λ p. IsKnown p (joined list own ++ []) in
+      let Q : ClosedList → Type 0 = λ c. IsKnown (problem c.task) (c.clauses ++ []) in
+      let R : List (List ℕ) → Type 0 = λ l. IsKnown (problem after.task) (after.clauses ++ l) in
+      subst R (sym none) (subst Q (sym is) (subst P there (known_closed (problem task) list own h)))

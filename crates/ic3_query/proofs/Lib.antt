@@ -11,3 +11,5 @@ pub mod SeenLemmas
 pub mod UnderLemmas
 pub mod LevelLemmas
 pub mod MeterLemmas
+pub mod CertifyLemmas
+pub mod PrefixLemmas

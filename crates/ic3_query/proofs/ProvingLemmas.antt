@@ -3,7 +3,7 @@ use Rattle.std.proofs.Common.{◌≡◌, ℕ, ◌+◌, ◌<◌, nat_lt, Bool, tr
 use Rattle.std.proofs.lemmas.Bool.Decides.{nat_tests}
 use Rattle.std.proofs.lemmas.List.{length_push}
 use Rattle.std.proofs.lemmas.Option.{get_or_from_slice_get, slice_get_within}
-use Rattle.std.specs.Prelude.{Contains, Option, Result, Err}
+use Rattle.std.specs.Prelude.{Contains, Option, None, Result, Err}
 use Rattle.std.proofs.lemmas.List.Elements.{All-append, Contains-get_or}
 use Rattle.ja_base.specs.Answers.{IfRefused}
 use Rattle.ja_base.specs.declared.memory.OrMemory.{OrMemory}
@@ -14,13 +14,14 @@ use Rattle.aig_model.specs.Task.{VerificationTask}
 use Rattle.aig_model.proofs.Places.{get_left, get_last}
 use Rattle.refute_check.specs.declared.lines.Refuted.{Refuted}
 use Rattle.refute_check.specs.Laws.{Refutes}
+use Rattle.refute_check.specs.Refuted.{Satisfies}
 use Rattle.ja_project.specs.CodedClauses.{negated_next}
 use Rattle.ja_project.specs.Latches.{is_foreign}
 use Rattle.inv_cert.specs.Proofs.{IsProofOf, AreProofs, HasProof}
 use Rattle.inv_cert.specs.Queries.{step_clauses}
 use Rattle.inv_cert.proofs.TakenLemmas.{open_is_not_inductive}
 use Rattle.ic3_query.specs.Known.{AreOwn}
-use Rattle.ic3_query.specs.Proving.{IsOpen, IsSolved}
+use Rattle.ic3_query.specs.Proving.{IsSolved}
 
 -- a proof for each of the first candidates, and no more
 pub record AreProved (t : VerificationTask) (base candidates : List (List ℕ)) (proofs : List Refuted) (number : ℕ) : Type 0 where
@@ -64,17 +65,23 @@ AreProved-more t base candidates proofs number clause proof h at shows = record 
           shows = subst P (same k other here is) shows;
         }
 
--- an open candidate shows that the list with all candidates is not inductive
-pub open_refutes : (t : VerificationTask) (base candidates : List (List ℕ)) (number : ℕ) → IsSound t.design
+-- a candidate without a proof shows that the list with all candidates is not inductive
+pub none_is_open : (t : VerificationTask) (base candidates added : List (List ℕ)) (number : ℕ) (clause : List ℕ)
+    (answer : Option Refuted) → IsSound t.design
     → length t.expected ≡ length t.design.bads → AreOwn (circuit t.design) base → AreOwn (circuit t.design) candidates
-    → IsInductive (circuit t.design) t.expected (base ++ candidates) → IsOpen t base candidates number → ⊥
-open_refutes t base candidates number sound expected own_base own inductive h =
-    let has : Contains candidates h.clause =
+    → IsInductive (circuit t.design) t.expected (base ++ candidates) → slice_get candidates number ≡ Some clause
+    → added ≡ step_clauses t base candidates → IsSolved (t.design.vars + 1) added (negated_next t.design clause) answer
+    → answer ≡ None → ⊥
+none_is_open t base candidates added number clause answer sound expected own_base own inductive at is h e =
+    let has : Contains candidates clause =
     let P : List ℕ → Type 0 = Contains candidates in
-    subst P (get_or_from_slice_get candidates number h.clause h.clause h.clause_is)
-    (Contains-get_or candidates number h.clause (slice_get_within candidates number h.clause h.clause_is)) in
-    open_is_not_inductive t base candidates h.clause h.row sound expected
-    (All-append (λ c. is_foreign (circuit t.design) c ≡ false) base candidates own_base own) has h.meets inductive
+    subst P (get_or_from_slice_get candidates number clause clause at)
+    (Contains-get_or candidates number clause (slice_get_within candidates number clause at)) in
+    let P : Option Refuted → Type 0 = IsSolved (t.design.vars + 1) added (negated_next t.design clause) in
+    let found = subst P e h in
+    let Q : List (List ℕ) → Type 0 = λ list. Satisfies (t.design.vars + 1) list (negated_next t.design clause) found.0 in
+    open_is_not_inductive t base candidates clause found.0 sound expected
+    (All-append (λ c. is_foreign (circuit t.design) c ≡ false) base candidates own_base own) has (subst Q is found.1) inductive
 
 -- a proof that was found
 pub proof_found : (t : VerificationTask) (base candidates added : List (List ℕ)) (clause : List ℕ) (answer : Option Refuted)

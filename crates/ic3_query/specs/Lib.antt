@@ -7,3 +7,4 @@ pub mod Under
 pub mod Opening
 pub mod Questions
 pub mod Laws
+pub mod Pairs

@@ -11,7 +11,7 @@ ghost use Rattle.ja_project.specs.Latches.{is_foreign};
 ghost use Rattle.ic3_query.specs.Endings.{IsCharged, OnStopped};
 ghost use Rattle.ic3_query.specs.Known.{AreOwn, IsForGood, IsKnown, all_of};
 
-use crate::closing::close;
+use crate::certifier::Certifier;
 use crate::halt::Halt;
 use inv_cert::Closed;
 use ja_base::{Clause, ClauseList, ClosedSet, Memory, Meter};
@@ -114,20 +114,23 @@ impl Known {
     }
 
     /// The clauses that have no proof yet become part of the closed list, whose task is then that of `coded`. None is refused.
-    pub fn close<S: Sat, F: Flag>(
+    pub fn close<L: Sat, F: Flag>(
         &mut self,
         alloc: Global,
         coded: &Coded,
+        certifier: &mut Certifier<L>,
         meter: &mut Meter,
         flag: &mut F,
     ) -> Result<(), Halt>
-        requires { problem self.old.task ≡ problem coded.now }
+        requires task { problem self.old.task ≡ problem coded.now }
+        requires certifier { certifier.old ≡ coded.now }
         ensures ok { OnOk result (self.new ≡ record {
           task = coded.now;
           list = joined self.old.list self.old.own;
           own = [];
         }) }
         ensures err { OnErr result (self.new ≡ self.old) }
+        ensures certifier { certifier.new ≡ certifier.old }
         ensures charged { IsCharged meter.old meter.new result }
         ensures later { IsLater meter.old meter.new }
         ensures stopped { OnStopped result
@@ -137,7 +140,7 @@ impl Known {
             (length self.old.own * (1 + 3 ^ (coded.now.design.vars + 1))) }
     {
         let _task = coded.task();
-        self.list = close::<S, F>(alloc, coded, &self.list, &self.own, meter, flag)?;
+        certifier.certify(alloc, coded, &mut self.list, &self.own, meter, flag)?;
         self.own = ClauseList::new(alloc);
         Ok(())
     }

@@ -1,12 +1,12 @@
 //! Lists of clauses for a solver.
 
-ghost use Rattle.std.specs.Prelude.{◌≡◌, ◌+◌, ◌<◌, ◌≤◌, [], ◌∷◌, ◌++◌, All, OnOk, IfOk, map};
+ghost use Rattle.std.specs.Prelude.{◌≡◌, ◌+◌, ◌<◌, ◌≤◌, [], ◌∷◌, ◌++◌, All, OnOk, map};
 ghost use Rattle.ja_base.specs.Literals.{variable};
 ghost use Rattle.ja_base.specs.Clauses.{IsBelow};
 ghost use Rattle.aig_model.specs.Task.{problem};
 
 use inv_cert::Closed;
-use ja_base::{Clause, ClauseList, ClosedSet, Lit, Memory};
+use ja_base::{Clause, ClosedSet, Lit, Memory};
 use ja_project::Coded;
 use sat_plain::Sat;
 use std::alloc::Global;
@@ -47,16 +47,6 @@ pub(crate) fn add_units<S: Sat>(alloc: Global, solver: &mut S, lits: &[Lit]) -> 
         add_unit(alloc, solver, *lit)?;
     }
     Ok(())
-}
-
-pub(crate) fn copied(alloc: Global, clauses: &ClauseList) -> Result<ClauseList, Memory>
-    ensures { IfOk result (λ copy. copy ≡ clauses.now) }
-{
-    let mut copy = ClauseList::new(alloc);
-    for clause in clauses.as_slice() {
-        copy.push(clause.copy(alloc)?)?;
-    }
-    Ok(copy)
 }
 
 /// Adds the clauses of a closed list.

@@ -1,49 +1,28 @@
-//! A proof for each candidate of a closing check.
+//! A proof for each candidate of a closing.
 
-ghost use Rattle.std.specs.Prelude.{◌≡◌, ◌+◌, ◌*◌, ◌^◌, false, IfOk, length};
+ghost use Rattle.std.specs.Prelude.{◌≡◌, ◌+◌, ◌*◌, ◌^◌, ◌++◌, false, IfOk, length};
 ghost use Rattle.ja_base.specs.Clauses.{IsBelow};
+ghost use Rattle.ja_base.specs.Invariants.{IsInductive};
 ghost use Rattle.ja_outside.specs.Flags.{IsPolled, IsFoundRaised};
 ghost use Rattle.aig_model.specs.Netlist.{circuit};
 ghost use Rattle.aig_model.specs.Task.{problem};
 ghost use Rattle.sat_plain.specs.Ticks.{IsLater, TicksAtMost};
 ghost use Rattle.ja_project.specs.CodedClauses.{negated_next};
 ghost use Rattle.ja_project.specs.Latches.{is_foreign};
+ghost use Rattle.inv_cert.specs.Proofs.{AreProofs};
 ghost use Rattle.inv_cert.specs.Queries.{step_clauses};
 ghost use Rattle.ic3_query.specs.Endings.{IsCharged, OnStopped};
 ghost use Rattle.ic3_query.specs.Known.{AreOwn};
-ghost use Rattle.ic3_query.specs.Proving.{IsProved, IsSolved};
+ghost use Rattle.ic3_query.specs.Proving.{IsSolved};
 
 use crate::halt::Halt;
-use crate::loading::{add_all, add_closed, add_units};
-use crate::proved::Proved;
 use inv_cert::Closed;
-use ja_base::{Clause, ClauseList, Lit, Memory, Meter};
+use ja_base::{Clause, ClauseList, Lit, Meter};
 use ja_outside::Flag;
 use ja_project::{Coded, negated_next};
 use refute_check::{Proofs, Refuted};
 use sat_plain::{Sat, SatAnswer};
 use std::alloc::Global;
-
-/// A solver with what is known of a step, if all candidates hold before it.
-fn step_solver<S: Sat>(
-    alloc: Global,
-    coded: &Coded,
-    base: &Closed,
-    candidates: &ClauseList,
-) -> Result<S, Memory>
-    requires task { problem base.now.task ≡ problem coded.now }
-    requires own { AreOwn (circuit coded.now.design) candidates.now }
-    ensures count { IfOk result (λ solver. S.count solver ≡ coded.now.design.vars + 1) }
-    ensures added { IfOk result (λ solver. S.added solver
-        ≡ step_clauses coded.now base.now.clauses candidates.now) }
-{
-    let mut solver = S::make(alloc, coded.vars())?;
-    add_all(alloc, &mut solver, coded.clauses().as_slice())?;
-    add_units(alloc, &mut solver, coded.held())?;
-    add_closed(alloc, coded, &mut solver, base)?;
-    add_all(alloc, &mut solver, candidates.as_slice())?;
-    Ok(solver)
-}
 
 /// The proof that the solver finds, or none where it finds a row.
 fn solved<S: Sat, F: Flag>(
@@ -97,18 +76,28 @@ fn prove<S: Sat, F: Flag>(
     solved(alloc, solver, under.as_slice(), meter, flag)
 }
 
-/// A proof for each candidate, over the design, the assumptions, the closed list and all candidates. The solver is made for it.
-pub fn prove_all<S: Sat, F: Flag>(
+/// A proof for each candidate, by a solver with the clauses of the design, the assumptions, the closed list and all candidates.
+/// Where these are inductive with the list, none is without a proof.
+pub(crate) fn prove_all<S: Sat, F: Flag>(
     alloc: Global,
     coded: &Coded,
     base: &Closed,
     candidates: &ClauseList,
+    solver: &mut S,
     meter: &mut Meter,
     flag: &mut F,
-) -> Result<Proved, Halt>
+) -> Result<Proofs, Halt>
     requires task { problem base.now.task ≡ problem coded.now }
     requires own { AreOwn (circuit coded.now.design) candidates.now }
-    ensures answer { IfOk result (IsProved coded.now base.now.clauses candidates.now) }
+    requires inductive { IsInductive (circuit coded.now.design) coded.now.expected
+        (base.now.clauses ++ candidates.now) }
+    requires wide { S.count solver.old ≡ coded.now.design.vars + 1 }
+    requires added { S.added solver.old
+        ≡ step_clauses coded.now base.now.clauses candidates.now }
+    ensures count { S.count solver.new ≡ S.count solver.old }
+    ensures added { S.added solver.new ≡ S.added solver.old }
+    ensures proofs { IfOk result (λ proofs. AreProofs coded.now base.now.clauses candidates.now
+        proofs (length candidates.now)) }
     ensures charged { IsCharged meter.old meter.new result }
     ensures later { IsLater meter.old meter.new }
     ensures stopped { OnStopped result (IsFoundRaised F.may_rise F.raised flag.old flag.new) }
@@ -116,20 +105,15 @@ pub fn prove_all<S: Sat, F: Flag>(
     ensures bounded { TicksAtMost meter.old meter.new
         (length candidates.now * (1 + 3 ^ (coded.now.design.vars + 1))) }
 {
-    let mut solver: S = step_solver(alloc, coded, base, candidates)?;
+    let _task = coded.task();
+    base.is_closed();
     let mut proofs = Proofs::new(alloc);
     for number in 0..candidates.len() {
-        match prove(
-            alloc,
-            coded,
-            &mut solver,
-            candidates.get(number),
-            meter,
-            flag,
-        )? {
+        let clause = candidates.get(number);
+        match prove(alloc, coded, solver, clause, meter, flag)? {
             Some(proof) => proofs.push(proof)?,
-            None => return Ok(Proved::Open(number)),
+            None => unreachable!(),
         }
     }
-    Ok(Proved::All(proofs))
+    Ok(proofs)
 }

@@ -18,7 +18,8 @@ mod ring;
 use crate::tests::blind::Blind;
 use crate::tests::ring::{Step, clause_of, ring_task, signs_of};
 use crate::{
-    Asked, Halt, Known, Room, ask, ask_bad, ask_known, first_solver, grow, join, keep, open,
+    Asked, Certifier, Halt, Known, Room, ask, ask_bad, ask_known, first_solver, grow, join, keep,
+    open,
 };
 use ic3_frames::Frames;
 use inv_cert::Closed;
@@ -327,21 +328,126 @@ fn ends_without_an_answer(rt: HostRuntime) -> Result<(), Fail> {
     Ok(())
 }
 
+/// What is known where a list is, and the clause of these literals behind it, out of which no step leads.
+fn known_with(
+    rt: &impl Abort,
+    alloc: Global,
+    coded: &Coded,
+    list: &Closed,
+    lits: &[Lit],
+) -> Result<Known, Halt>
+    requires task { problem list.now.task ≡ problem coded.now }
+    ensures task { IfOk result (λ known. problem known.task ≡ problem coded.now) }
+{
+    let table = ResetTable::new(alloc, coded.task())?;
+    let mut known = Known::of(alloc, list.copy(alloc)?);
+    let (mut solver, mut frames): (PlainSat, Frames) = opened(alloc, coded, &known)?;
+    let mut room = Room::new(alloc, coded)?;
+    let clause = begun(rt, alloc, coded, &table, lits)?;
+    learn(
+        rt,
+        alloc,
+        coded,
+        &mut solver,
+        &mut frames,
+        &mut known,
+        &mut room,
+        clause,
+    )?;
+    Ok(known)
+}
+
+/// The closed list with that clause behind it.
+fn closed_with(
+    rt: &impl Abort,
+    alloc: Global,
+    coded: &Coded,
+    certifier: &mut Certifier<PlainSat>,
+    list: &Closed,
+    lits: &[Lit],
+) -> Result<Closed, Halt>
+    requires task { problem list.now.task ≡ problem coded.now }
+    requires certifier { certifier.old ≡ coded.now }
+    ensures task { IfOk result (λ closed. problem closed.task ≡ problem coded.now) }
+    ensures certifier { certifier.new ≡ certifier.old }
+{
+    let mut known = known_with(rt, alloc, coded, list, lits)?;
+    let mut meter = Meter::new(None);
+    known.close(alloc, coded, certifier, &mut meter, &mut NoFlag)?;
+    let closed = known.list().copy(alloc)?;
+    Ok(closed)
+}
+
+fn are_clauses(list: &Closed, clauses: &[[Lit; 2]]) -> bool {
+    list.len() as usize == clauses.len()
+        && (0..list.len()).all(|at| list.clause(at).lits() == clauses[at as usize].as_slice())
+}
+
+// Without a unit nothing is closed, and with any number of them the clause that has no proof yet.
+fn close_twice(
+    rt: &impl Abort,
+    alloc: Global,
+    coded: &Coded,
+    certifier: &mut Certifier<PlainSat>,
+    known: &mut Known,
+) -> Result<(), Halt>
+    requires task { problem known.old.task ≡ problem coded.now }
+    requires certifier { certifier.old ≡ coded.now }
+{
+    assert_eq!(rt; (known.list().len(), known.own().len()), (0, 1));
+    let mut meter = Meter::new(Some(0));
+    let spent = known.close(alloc, coded, certifier, &mut meter, &mut NoFlag);
+    assert_eq!(rt; spent, Err(Halt::Spent));
+    assert_eq!(rt; (known.list().len(), known.own().len()), (0, 1));
+    let mut meter = Meter::new(None);
+    known.close(alloc, coded, certifier, &mut meter, &mut NoFlag)?;
+    assert_eq!(rt; (known.list().len(), known.own().len()), (1, 0));
+    assert_eq!(rt; known.list().clause(0).lits(), [Lit(5), Lit(7)].as_slice());
+    Ok(())
+}
+
 #[test]
 fn closes_what_is_known(rt: HostRuntime) -> Result<(), Fail> {
     let alloc = rt.alloc();
     let coded = Coded::new(alloc, &ring_task(&rt, alloc)?)?;
-    let table = ResetTable::new(alloc, coded.task())?;
-    let made: Search<PlainSat> = make_search(&rt, alloc, &coded, &table)?;
-    let mut known = made.known;
-    assert_eq!(rt; (known.list().len(), known.own().len()), (0, 1));
-    let mut meter = Meter::new(Some(0));
-    let spent = known.close::<PlainSat, _>(alloc, &coded, &mut meter, &mut NoFlag);
-    assert_eq!(rt; spent, Err(Halt::Spent));
-    assert_eq!(rt; (known.list().len(), known.own().len()), (0, 1));
-    let mut meter = Meter::new(None);
-    known.close::<PlainSat, _>(alloc, &coded, &mut meter, &mut NoFlag)?;
-    assert_eq!(rt; (known.list().len(), known.own().len()), (1, 0));
-    assert_eq!(rt; known.list().clause(0).lits(), [Lit(5), Lit(7)].as_slice());
+    let none = Closed::empty(alloc, coded.task())?;
+    let mut known = known_with(&rt, alloc, &coded, &none, &[Lit(5), Lit(7)])?;
+    let mut certifier: Certifier<PlainSat> = Certifier::new(&coded)?;
+    let closed = close_twice(&rt, alloc, &coded, &mut certifier, &mut known);
+    Ok(closed?)
+}
+
+// Not both a and b, and not both b and c. A list of the second alone does not begin with what is loaded for both.
+fn close_behind(
+    rt: &impl Abort,
+    alloc: Global,
+    coded: &Coded,
+    certifier: &mut Certifier<PlainSat>,
+    none: &Closed,
+) -> Result<(), Halt>
+    requires task { problem none.now.task ≡ problem coded.now }
+    requires certifier { certifier.old ≡ coded.now }
+{
+    let ab = [Lit(5), Lit(7)];
+    let bc = [Lit(7), Lit(9)];
+    let first = closed_with(rt, alloc, coded, certifier, none, &ab)?;
+    assert!(rt; are_clauses(&first, &[ab]));
+    let both = closed_with(rt, alloc, coded, certifier, &first, &bc)?;
+    assert!(rt; are_clauses(&both, &[ab, bc]));
+    let other = closed_with(rt, alloc, coded, certifier, none, &bc)?;
+    assert!(rt; are_clauses(&other, &[bc]));
+    certifier.learn(alloc, coded, &both)?;
+    let last = closed_with(rt, alloc, coded, certifier, &other, &ab)?;
+    assert!(rt; are_clauses(&last, &[bc, ab]));
     Ok(())
+}
+
+#[test]
+fn closes_behind_what_is_loaded(rt: HostRuntime) -> Result<(), Fail> {
+    let alloc = rt.alloc();
+    let coded = Coded::new(alloc, &ring_task(&rt, alloc)?)?;
+    let none = Closed::empty(alloc, coded.task())?;
+    let mut certifier: Certifier<PlainSat> = Certifier::new(&coded)?;
+    let closed = close_behind(&rt, alloc, &coded, &mut certifier, &none);
+    Ok(closed?)
 }

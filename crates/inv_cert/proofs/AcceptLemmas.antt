@@ -46,6 +46,12 @@ next_is xs n before after (Some x) e steps =
     let first = drop_first xs n x after.rest.items (sym e ∙ steps.0) in
     (sym first.0, sym first.1)
 
+-- ---- the same clauses under another name
+
+pub loaded_as : (vars : ℕ) (clauses others : List (List ℕ)) (checker : Checked) → clauses ≡ others → IsLoaded vars clauses checker
+    → IsLoaded vars others checker
+loaded_as vars clauses others checker e h = subst (λ (list : List (List ℕ)). IsLoaded vars list checker) e h
+
 -- ---- the refusal of a candidate
 
 pub refusal_at : (t : VerificationTask) (base candidates : List (List ℕ)) (proofs : List Refuted) (number : ℕ) (clause : List ℕ)
@@ -63,9 +69,14 @@ pub record IsAccepting (t : VerificationTask) (base candidates : List (List ℕ)
   pub accepted : AreTaken t base candidates proofs number
 
 module _ (t : VerificationTask) (base candidates : List (List ℕ)) (proofs : List Refuted) where
-  pub IsAccepting-none : (checker : Checked) → IsLoaded (t.design.vars + 1) (step_clauses t base candidates) checker
-      → IsAccepting t base candidates proofs 0 proofs checker
-  IsAccepting-none checker loaded = record { loaded = loaded; left_are = refl; accepted = λ k clause below. absurd (omega arith) }
+  pub IsAccepting-none : (left : List Refuted) (checker : Checked) → left ≡ proofs
+      → IsLoaded (t.design.vars + 1) (step_clauses t base candidates) checker
+      → IsAccepting t base candidates proofs 0 left checker
+  IsAccepting-none left checker all loaded = record {
+    loaded = loaded;
+    left_are = all;
+    accepted = λ k clause below. absurd (omega arith);
+  }
 
   -- what the next candidate is told, with the next proof
   refusal_of_next : (number : ℕ) (clause : List ℕ) (list : List (List ℕ)) (proof : Option Refuted)

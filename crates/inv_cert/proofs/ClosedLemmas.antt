@@ -1,12 +1,12 @@
 -- A closed list that is seen for another task with the same problem, and what an answer says of it.
-use Rattle.std.proofs.Common.{◌≡◌, ℕ, ◌+◌, Some, None, Ok, Err, Result, List, [], ◌∷◌, length, slice_get, false, sym, ap, subst, ◌∙◌}
+use Rattle.std.proofs.Common.{◌≡◌, ℕ, ◌+◌, Some, None, Ok, Err, Result, List, [], ◌∷◌, ◌++◌, length, slice_get, false, sym, ap, subst, ◌∙◌}
 use Rattle.std.specs.List.{All}
 use Rattle.std.proofs.lemmas.Option.{get_or_from_slice_get}
 use Rattle.ja_base.specs.Answers.{IfRefused}
 use Rattle.ja_base.specs.declared.memory.OrMemory.{OrMemory}
 use Rattle.ja_base.specs.declared.memory.OrMemory.TheVariants.{Refused, Memory}
 use Rattle.ja_base.specs.Circuit.{Problem, bad_literal}
-use Rattle.ja_base.specs.ClauseSets.{joined}
+use Rattle.ja_base.specs.ClauseSets.{fresh, joined}
 use Rattle.ja_base.specs.Invariants.{Covers}
 use Rattle.aig_model.specs.Netlist.{IsSound, circuit}
 use Rattle.aig_model.specs.Task.{VerificationTask, problem}
@@ -18,7 +18,7 @@ use Rattle.inv_cert.specs.Closed.{ClosedList, IsClosed}
 use Rattle.inv_cert.specs.Queries.{cover_clauses}
 use Rattle.inv_cert.specs.Refusals.{AreTaken, proof_refusal}
 use Rattle.inv_cert.specs.Taken.{IsLoaded}
-use Rattle.inv_cert.proofs.JoinLemmas.{IsClosed-joined}
+use Rattle.inv_cert.proofs.JoinLemmas.{IsClosed-joined, joined_with_fresh}
 use Rattle.inv_cert.proofs.MeaningLemmas.{accepted_are_own, accepted_are_inductive, accepted_is_refuted, refuted_is_covered}
 
 -- the list of a closed one, for a task with its problem
@@ -36,6 +36,28 @@ pub IsClosed-accepted : (t : VerificationTask) → IsSound t.design → length t
 IsClosed-accepted t sound expected base candidates proofs closed accepted =
     IsClosed-joined (problem t) base candidates closed (accepted_are_own t base candidates proofs accepted)
     (accepted_are_inductive t sound expected base candidates proofs closed.own accepted)
+
+-- the view of a closed list by its parts
+pub closed_list_is : (task t : VerificationTask) (list clauses : List (List ℕ)) → task ≡ t → list ≡ clauses
+    → ◌≡◌ {A = ClosedList} (record { task = task; clauses = list }) (record { task = t; clauses = clauses })
+closed_list_is task t list clauses e f =
+    let P : VerificationTask → ClosedList = λ u. record { task = u; clauses = list } in
+    let Q : List (List ℕ) → ClosedList = λ l. record { task = t; clauses = l } in
+    ap P e ∙ ap Q f
+
+-- ---- a list that grows, seen by its parts
+
+module _ (seen : ClosedList) (task : VerificationTask) (base candidates : List (List ℕ))
+    (view : ◌≡◌ {A = ClosedList} (record { task = task; clauses = base }) seen) (new : fresh seen.clauses candidates ≡ candidates)
+    (after : List (List ℕ)) (pushed : after ≡ base ++ candidates) where
+  fresh_here : fresh base candidates ≡ candidates
+  fresh_here = ap (λ (c : ClosedList). fresh c.clauses candidates) view ∙ new
+
+  pub grown_here : after ≡ joined base candidates
+  grown_here = pushed ∙ sym (joined_with_fresh base candidates fresh_here)
+
+  pub grown_seen : after ≡ joined seen.clauses candidates
+  grown_seen = grown_here ∙ ap (λ (c : ClosedList). joined c.clauses candidates) view
 
 -- ---- answers
 

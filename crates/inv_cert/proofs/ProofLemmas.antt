@@ -1,12 +1,13 @@
 -- What a checker has taken of a proof, line by line.
-use Rattle.std.proofs.Common.{◌≡◌, ℕ, ◌+◌, ◌≤◌, true, Option, Some, None, List, [], ◌∷◌, ◌++◌, length, map, is_none, append_assoc, append-nil, refl, sym, ap, subst, ◌∙◌, arith}
+use Rattle.std.proofs.Common.{◌≡◌, ℕ, ◌+◌, ◌≤◌, true, Option, Some, None, List, [], ◌∷◌, ◌++◌, length, map, take, is_none, append_assoc, append-nil, refl, sym, ap, subst, ◌∙◌, arith}
+use Rattle.std.proofs.Math.Seq.{take-append_seam}
 use Rattle.refute_check.specs.Lines.{refusal, accepts_line}
 use Rattle.refute_check.specs.Laws.{with_lines}
-use Rattle.refute_check.specs.Checked.{Checked, with_line}
+use Rattle.refute_check.specs.Checked.{Checked, with_line, without_lines}
 use Rattle.refute_check.specs.declared.lines.Line.{Line}
 use Rattle.inv_cert.specs.declared.not_closed.NotClosed.TheVariants as case
 use Rattle.inv_cert.specs.Refusals.{hint_or, refused_line}
-use Rattle.inv_cert.specs.Taken.{IsLoaded, HasTaken, line_refusal}
+use Rattle.inv_cert.specs.Taken.{IsLoaded, HasTaken, HasLines, line_refusal}
 
 -- so many lines are taken, and these are left
 pub record IsTaking (vars : ℕ) (clauses : List (List ℕ)) (lines : List Line) (at : ℕ) (left : List Line)
@@ -17,6 +18,34 @@ pub record IsTaking (vars : ℕ) (clauses : List (List ℕ)) (lines : List Line)
   pub count : at + length left ≡ length lines
   pub same : refused_line vars clauses 0 lines ≡ refused_line vars checker.list at left
   pub list : with_lines checker.list left ≡ with_lines clauses lines
+  pub held : HasLines vars clauses checker
+
+-- ---- a checker with lines behind its clauses
+
+pub HasLines-none : (vars : ℕ) (clauses : List (List ℕ)) (checker : Checked) → IsLoaded vars clauses checker
+    → HasLines vars clauses checker
+HasLines-none vars clauses checker h =
+    record { vars_are = h.vars_are; lines = []; list = h.list ∙ sym (append-nil clauses); kept = h.kept }
+
+HasLines-more : (vars : ℕ) (clauses : List (List ℕ)) (checker : Checked) (clause : List ℕ) → HasLines vars clauses checker
+    → HasLines vars clauses (with_line checker clause)
+HasLines-more vars clauses checker clause h = record {
+  vars_are = h.vars_are;
+  lines = h.lines ++ clause ∷ [];
+  list = ap (λ (list : List (List ℕ)). list ++ clause ∷ []) h.list ∙ append_assoc clauses h.lines (clause ∷ []);
+  kept = h.kept;
+}
+
+-- the lines are given back
+pub IsLoaded-forgotten : (vars : ℕ) (clauses : List (List ℕ)) (checker : Checked) → HasLines vars clauses checker
+    → IsLoaded vars clauses (without_lines checker)
+IsLoaded-forgotten vars clauses checker h = record {
+  vars_are = h.vars_are;
+  list = ap (λ (n : ℕ). take n checker.list) h.kept ∙ ap (take (length clauses)) h.list ∙ take-append_seam clauses h.lines;
+  kept = h.kept;
+}
+
+-- ---- line by line
 
 module _ (vars : ℕ) (clauses : List (List ℕ)) (lines : List Line) where
   pub IsTaking-none : (checker : Checked) → IsLoaded vars clauses checker → length lines ≤ checker.spare
@@ -28,6 +57,7 @@ module _ (vars : ℕ) (clauses : List (List ℕ)) (lines : List Line) where
     count = omega arith;
     same = ap (λ (list : List (List ℕ)). refused_line vars list 0 lines) (sym h.list);
     list = ap (λ (list : List (List ℕ)). with_lines list lines) h.list;
+    held = HasLines-none vars clauses checker h;
   }
 
   pub IsTaking-as : (at : ℕ) (left seen : List Line) (checker : Checked) → left ≡ seen
@@ -50,6 +80,7 @@ module _ (vars : ℕ) (clauses : List (List ℕ)) (lines : List Line) where
         ∙ ap (λ (r : Option ℕ). hint_or r at (refused_line vars (checker.list ++ line.clause ∷ []) (at + 1) left))
         (ap (λ (n : ℕ). refusal n checker.list line.clause line.hints) (sym h.vars_are) ∙ accepted);
     list = append_assoc checker.list (line.clause ∷ []) (map (λ (k : Line). k.clause) left) ∙ h.list;
+    held = HasLines-more vars clauses checker line.clause h.held;
   }
 
   -- a line that is refused

@@ -4,3 +4,4 @@ pub mod Proofs
 pub mod Refusals
 pub mod Taken
 pub mod Known
+pub mod Loaded

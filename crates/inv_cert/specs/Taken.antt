@@ -26,6 +26,13 @@ pub record HasTaken (vars : ℕ) (clauses : List (List ℕ)) (lines : List Line)
   pub list : checker.list ≡ with_lines clauses lines
   pub kept : checker.kept ≡ length clauses
 
+-- the checker has the clauses, and behind them lines alone
+pub record HasLines (vars : ℕ) (clauses : List (List ℕ)) (checker : Checked) : Type 0 where
+  pub vars_are : checker.vars ≡ vars
+  pub lines : List (List ℕ)
+  pub list : checker.list ≡ clauses ++ lines
+  pub kept : checker.kept ≡ length clauses
+
 -- the clauses came behind those that the checker had
 pub record Loads (before : Checked) (clauses : List (List ℕ)) (after : Checked) : Type 0 where
   pub vars_are : after.vars ≡ before.vars

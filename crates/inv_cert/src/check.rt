@@ -1,10 +1,11 @@
 //! The candidates, one after the other, each with its proof.
 
-ghost use Rattle.std.specs.Prelude.{◌≡◌, ◌+◌, All, OnOk, None, Some, length, false};
+ghost use Rattle.std.specs.Prelude.{◌≡◌, ◌+◌, ℕ, List, All, OnOk, None, Some, length, false};
 ghost use Rattle.ja_base.specs.Answers.{IfRefused};
 ghost use Rattle.ja_base.specs.Clauses.{IsBelow};
 ghost use Rattle.aig_model.specs.Netlist.{circuit};
 ghost use Rattle.ja_project.specs.Latches.{is_foreign};
+ghost use Rattle.inv_cert.specs.Queries.{step_clauses};
 ghost use Rattle.inv_cert.specs.Refusals.{AreTaken, IsFirstRefusal};
 ghost use Rattle.inv_cert.specs.Taken.{IsLoaded, refusal_by};
 
@@ -31,8 +32,7 @@ fn accept(
     requires below { IsBelow (coded.now.design.vars + 1) clause.now }
     ensures accepted { OnOk result
         (refusal_by coded.now checker.old.list number clause.now proof ≡ None) }
-    ensures loaded { OnOk result
-        (IsLoaded (coded.now.design.vars + 1) checker.old.list checker.new) }
+    ensures loaded { IsLoaded (coded.now.design.vars + 1) checker.old.list checker.new }
     ensures refused { IfRefused result
         (λ r. refusal_by coded.now checker.old.list number clause.now proof ≡ Some r) }
 {
@@ -49,7 +49,35 @@ fn accept(
     take_proof(checker, number, proof.lines, under.as_slice())
 }
 
-/// The clauses are given to one checker once; each proof is taken by it and given back. Further proofs are passed over.
+/// Each candidate with its proof, which is taken by the checker and given back. Further proofs are passed over.
+pub(crate) fn accept_each(
+    alloc: Global,
+    coded: &Coded,
+    table: &ResetTable,
+    checker: &mut Checker,
+    candidates: &ClauseList,
+    proofs: Proofs,
+) -> Result<(), OrMemory<NotClosed>>
+    requires table { table.now ≡ coded.now.design }
+    requires loaded { IsLoaded (coded.now.design.vars + 1) checker.old.list checker.old }
+    requires candidates { All (IsBelow (coded.now.design.vars + 1)) candidates.now }
+    ensures loaded { IsLoaded (coded.now.design.vars + 1) checker.old.list checker.new }
+    ensures accepted { (base : List (List ℕ))
+        → checker.old.list ≡ step_clauses coded.now base candidates.now
+        → OnOk result (AreTaken coded.now base candidates.now proofs (length candidates.now)) }
+    ensures refused { (base : List (List ℕ))
+        → checker.old.list ≡ step_clauses coded.now base candidates.now
+        → IfRefused result (IsFirstRefusal coded.now base candidates.now proofs) }
+{
+    let mut proofs = proofs.into_vec().into_iter();
+    for number in 0..candidates.len() {
+        let clause = candidates.get(number);
+        accept(alloc, coded, table, checker, number, clause, proofs.next())?;
+    }
+    Ok(())
+}
+
+/// The clauses are given to one checker once.
 pub(crate) fn accept_all(
     alloc: Global,
     coded: &Coded,
@@ -65,18 +93,5 @@ pub(crate) fn accept_all(
 {
     let table = ResetTable::new(alloc, coded.task())?;
     let mut checker = step_checker(alloc, coded, base, candidates)?;
-    let mut proofs = proofs.into_vec().into_iter();
-    for number in 0..candidates.len() {
-        let clause = candidates.get(number);
-        accept(
-            alloc,
-            coded,
-            &table,
-            &mut checker,
-            number,
-            clause,
-            proofs.next(),
-        )?;
-    }
-    Ok(())
+    accept_each(alloc, coded, &table, &mut checker, candidates, proofs)
 }

@@ -1,9 +1,9 @@
 //! Lists that are closed.
 
-ghost use Rattle.std.specs.Prelude.{◌≡◌, ◌+◌, ◌<◌, [], ◌∷◌, length, Some, None, All, IfOk, OnOk};
+ghost use Rattle.std.specs.Prelude.{◌≡◌, ◌+◌, ◌<◌, [], ◌∷◌, ◌++◌, length, Some, None, All, IfOk, OnOk, OnErr};
 ghost use Rattle.ja_base.specs.Answers.{IfRefused};
 ghost use Rattle.ja_base.specs.Clauses.{IsBelow};
-ghost use Rattle.ja_base.specs.ClauseSets.{joined};
+ghost use Rattle.ja_base.specs.ClauseSets.{fresh, joined};
 ghost use Rattle.ja_base.specs.Invariants.{Covers};
 ghost use Rattle.aig_model.specs.Netlist.{circuit};
 ghost use Rattle.aig_model.specs.Task.{problem};
@@ -11,8 +11,9 @@ ghost use Rattle.inv_cert.specs.Closed.{IsClosed};
 ghost use Rattle.inv_cert.specs.Refusals.{AreTaken, IsFirstRefusal, cover_refusal};
 
 use crate::check::accept_all;
-use crate::join::joined;
+use crate::join::{fresh, joined};
 use crate::load::cover_checker;
+use crate::loaded::StepChecker;
 use crate::not_closed::NotClosed;
 use crate::proof::take_proof;
 use aig_model::Task;
@@ -73,6 +74,44 @@ impl Closed {
         accept_all(alloc, coded, &base.clauses, &candidates, proofs)?;
         let clauses = joined(alloc, &base.clauses, &candidates)?;
         Ok(Closed { task, clauses })
+    }
+
+    /// The candidates that the list does not have, each once.
+    pub fn fresh(&self, alloc: Global, candidates: &ClauseList) -> Result<ClauseList, Memory>
+        ensures { IfOk result (λ added. added ≡ fresh self.now.clauses candidates.now) }
+    {
+        fresh(alloc, &self.clauses, candidates)
+    }
+
+    /// What `check` answers, by a checker that holds the list and the candidates already. The list grows in place, and its task
+    /// is then that of `coded`.
+    pub fn grow(
+        &mut self,
+        alloc: Global,
+        coded: &Coded,
+        checker: &mut StepChecker,
+        candidates: ClauseList,
+        proofs: Proofs,
+    ) -> Result<(), OrMemory<NotClosed>>
+        requires task { problem self.old.task ≡ problem coded.now }
+        requires below { All (IsBelow (coded.now.design.vars + 1)) candidates }
+        requires fresh { fresh self.old.clauses candidates ≡ candidates }
+        requires checker { checker.old
+            ≡ record { task = coded.now; list = self.old.clauses ++ candidates } }
+        ensures closed { OnOk result (self.new
+            ≡ record { task = coded.now; clauses = joined self.old.clauses candidates }) }
+        ensures accepted { OnOk result (AreTaken coded.now self.old.clauses candidates proofs
+            (length candidates)) }
+        ensures refused { IfRefused result
+            (IsFirstRefusal coded.now self.old.clauses candidates proofs) }
+        ensures same { OnErr result (self.new ≡ self.old) }
+        ensures checker { checker.new ≡ checker.old }
+    {
+        let task = coded.task().share()?;
+        checker.accept(alloc, coded, &candidates, proofs)?;
+        self.clauses.append(candidates)?;
+        self.task = task;
+        Ok(())
     }
 
     /// Whether the proof shows that the property is broken in no row that meets the clauses, with nothing assumed. In a

@@ -1,6 +1,6 @@
 //! Closed lists: clauses over latches that are inductive under what their task assumes. What that is stands in `specs/Closed`,
 //! over which clauses a proof is checked in `specs/Queries`, which refusal comes first in `specs/Refusals`, and which proofs are
-//! taken in `specs/Proofs`.
+//! taken in `specs/Proofs`; what a checker has that stays loaded, in `specs/Loaded`.
 #![tactic(auto)]
 
 mod check;
@@ -11,6 +11,7 @@ mod join;
 mod join_tests;
 mod laws;
 mod load;
+mod loaded;
 mod not_closed;
 mod proof;
 #[cfg(test)]
@@ -21,4 +22,5 @@ pub use laws::{
     assumptions_discharge, covered_never_breaks, covered_never_fails, join_is_inductive,
     open_is_not_inductive, proofs_are_taken, reachable_states_meet,
 };
+pub use loaded::StepChecker;
 pub use not_closed::NotClosed;

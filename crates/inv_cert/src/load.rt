@@ -6,6 +6,7 @@ ghost use Rattle.ja_base.specs.Clauses.{IsBelow};
 ghost use Rattle.aig_model.specs.Netlist.{IsSound, circuit};
 ghost use Rattle.refute_check.specs.Checked.{IsAdded};
 ghost use Rattle.ja_project.specs.Latches.{is_foreign};
+ghost use Rattle.inv_cert.specs.Loaded.{design_clauses};
 ghost use Rattle.inv_cert.specs.Queries.{cover_clauses, step_clauses};
 ghost use Rattle.inv_cert.specs.Taken.{IsLoaded, Loads};
 
@@ -44,6 +45,18 @@ fn add_units(alloc: Global, checker: &mut Checker, lits: &[Lit]) -> Result<(), M
     Ok(())
 }
 
+/// The checker for a step, with no list yet.
+pub(crate) fn design_checker(alloc: Global, coded: &Coded) -> Result<Checker, Memory>
+    ensures loaded { IfOk result
+        (IsLoaded (coded.now.design.vars + 1) (design_clauses coded.now)) }
+    ensures sound { IsSound coded.now.design }
+{
+    let mut checker = Checker::new(alloc, coded.vars())?;
+    add_all(alloc, &mut checker, coded.clauses().as_slice())?;
+    add_units(alloc, &mut checker, coded.held())?;
+    Ok(checker)
+}
+
 /// The checker for what is to hold one step later.
 pub(crate) fn step_checker(
     alloc: Global,
@@ -56,9 +69,7 @@ pub(crate) fn step_checker(
     ensures { IfOk result
         (IsLoaded (coded.now.design.vars + 1) (step_clauses coded.now base.now candidates.now)) }
 {
-    let mut checker = Checker::new(alloc, coded.vars())?;
-    add_all(alloc, &mut checker, coded.clauses().as_slice())?;
-    add_units(alloc, &mut checker, coded.held())?;
+    let mut checker = design_checker(alloc, coded)?;
     add_all(alloc, &mut checker, base.as_slice())?;
     add_all(alloc, &mut checker, candidates.as_slice())?;
     Ok(checker)

@@ -4,7 +4,7 @@ ghost use Rattle.std.specs.Prelude.{◌≡◌, ◌<◌, ◌≤◌, ◌^◌, ℕ,
 ghost use Rattle.ja_base.specs.Answers.{IfRefused};
 ghost use Rattle.refute_check.specs.Lines.{refusal};
 ghost use Rattle.inv_cert.specs.Refusals.{proof_refusal, refused_line};
-ghost use Rattle.inv_cert.specs.Taken.{HasTaken, IsLoaded, line_refusal};
+ghost use Rattle.inv_cert.specs.Taken.{HasLines, HasTaken, IsLoaded, line_refusal};
 
 use crate::not_closed::NotClosed;
 use ja_base::{Lit, OrMemory};
@@ -23,6 +23,7 @@ fn take_lines(
         ≡ None) }
     ensures taken { OnOk result
         (HasTaken checker.old.vars checker.old.list lines.items checker.new) }
+    ensures held { HasLines checker.old.vars checker.old.list checker.new }
     ensures refused { IfRefused result
         (λ r. line_refusal number (refused_line checker.old.vars checker.old.list 0 lines.items)
         ≡ Some r) }
@@ -41,7 +42,30 @@ fn take_lines(
     Ok(())
 }
 
-/// Takes the lines, and looks whether they show that the literals cannot all be 1. Where they do, they are given back.
+/// Takes the lines, and looks whether they show that the literals cannot all be 1. The checker keeps them.
+fn judge(
+    checker: &mut Checker,
+    number: u32,
+    lines: Vec<Line>,
+    under: &[Lit],
+) -> Result<(), OrMemory<NotClosed>>
+    requires room { length lines.items ≤ checker.old.spare }
+    requires short { length lines.items < 2 ^ 32 }
+    requires loaded { IsLoaded checker.old.vars checker.old.list checker.old }
+    ensures accepted { OnOk result (proof_refusal number checker.old.vars checker.old.list
+        lines.items under.now ≡ None) }
+    ensures held { HasLines checker.old.vars checker.old.list checker.new }
+    ensures refused { IfRefused result (λ r. proof_refusal number checker.old.vars
+        checker.old.list lines.items under.now ≡ Some r) }
+{
+    take_lines(checker, number, lines)?;
+    if !checker.covers(under) {
+        return Err(OrMemory::Refused(NotClosed::Left(number)));
+    }
+    Ok(())
+}
+
+/// Takes the lines, looks whether they show that the literals cannot all be 1, and gives them back.
 pub(crate) fn take_proof(
     checker: &mut Checker,
     number: u32,
@@ -51,15 +75,12 @@ pub(crate) fn take_proof(
     requires { IsLoaded checker.old.vars checker.old.list checker.old }
     ensures accepted { OnOk result
         (proof_refusal number checker.old.vars checker.old.list lines under.now ≡ None) }
-    ensures loaded { OnOk result (IsLoaded checker.old.vars checker.old.list checker.new) }
+    ensures loaded { IsLoaded checker.old.vars checker.old.list checker.new }
     ensures refused { IfRefused result
         (λ r. proof_refusal number checker.old.vars checker.old.list lines under.now ≡ Some r) }
 {
     checker.reserve(lines.len())?;
-    take_lines(checker, number, lines.into_vec())?;
-    if !checker.covers(under) {
-        return Err(OrMemory::Refused(NotClosed::Left(number)));
-    }
+    let judged = judge(checker, number, lines.into_vec(), under);
     checker.forget_lines();
-    Ok(())
+    judged
 }

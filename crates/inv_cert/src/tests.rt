@@ -2,14 +2,14 @@
 //! and b are 1, 1 where b and c are, 2 where a and c are. A checker has the coded clauses at 0 to 9: 1 to 3 for the gate 8 of a
 //! and b, 4 to 6 for the gate 10 of b and c, 7 to 9 for the gate 12 of a and c; the three assumptions at 10 to 12; then the lists.
 
-ghost use Rattle.std.specs.Prelude.{◌≡◌, ◌+◌, nat_lt, All, IfOk};
+ghost use Rattle.std.specs.Prelude.{◌≡◌, ◌+◌, ◌++◌, nat_lt, All, IfOk, OnOk};
 ghost use Rattle.std.specs.List.{list_all};
 ghost use Rattle.ja_base.specs.Literals.{variable};
 ghost use Rattle.ja_base.specs.Clauses.{IsBelow};
 ghost use Rattle.aig_model.specs.Refusals.{AreInRange};
 ghost use Rattle.aig_model.specs.Task.{problem};
 
-use crate::{Closed, NotClosed};
+use crate::{Closed, NotClosed, StepChecker};
 use aig_model::{AndGate, AndGates, Design, Expect, Latch, Latches, Parts, Reset, Task};
 use ja_base::{Clause, ClauseList, ClosedSet, Lit, Lits, Memory, OrMemory};
 use ja_project::Coded;
@@ -167,6 +167,19 @@ fn proofs(alloc: Global, all: &[Given]) -> Result<Proofs, Memory> {
     Ok(proofs)
 }
 
+/// Clauses over the variables of the task.
+fn candidates_of(
+    rt: &impl Abort,
+    alloc: Global,
+    coded: &Coded,
+    lists: &[Numbers],
+) -> Result<ClauseList, Memory>
+    ensures { IfOk result (All (IsBelow (coded.now.design.vars + 1))) }
+{
+    assert!(rt; coded.vars() == 7);
+    clauses(rt, alloc, lists)
+}
+
 fn check(
     rt: &impl Abort,
     alloc: Global,
@@ -178,13 +191,78 @@ fn check(
     requires { problem base.now.task ≡ problem coded.now }
     ensures { IfOk result (λ answer. IfOk answer (λ closed. closed.task ≡ coded.now)) }
 {
-    assert!(rt; coded.vars() == 7);
-    let candidates = clauses(rt, alloc, &candidates)?;
+    let candidates = candidates_of(rt, alloc, coded, &candidates)?;
     match Closed::check(alloc, coded, base, candidates, proofs(alloc, &given)?) {
         Ok(closed) => Ok(Ok(closed)),
         Err(OrMemory::Refused(refusal)) => Ok(Err(refusal)),
         Err(OrMemory::Memory) => Err(Memory),
     }
+}
+
+/// The clauses come behind those that the checker has.
+fn add_each(alloc: Global, checker: &mut StepChecker, clauses: &[Clause]) -> Result<(), Memory>
+    requires { All (IsBelow (checker.old.task.design.vars + 1)) clauses.now }
+    ensures { OnOk result (checker.new ≡ record {
+      task = checker.old.task;
+      list = checker.old.list ++ clauses.now;
+    }) }
+{
+    for clause in clauses {
+        checker.add(alloc, clause)?;
+    }
+    Ok(())
+}
+
+/// What `grow` answers, by a checker that holds the list, and to which the candidates come.
+fn grow(
+    rt: &impl Abort,
+    alloc: Global,
+    coded: &Coded,
+    list: &mut Closed,
+    checker: &mut StepChecker,
+    wanted: ([Numbers; 2], [Given; 2]),
+) -> Result<Result<(), NotClosed>, Memory>
+    requires task { problem list.old.task ≡ problem coded.now }
+    requires checker { checker.old ≡ record { task = coded.now; list = list.old.clauses } }
+    ensures task { problem list.new.task ≡ problem coded.now }
+    ensures checker { IfOk result (λ answer. OnOk answer
+        (checker.new ≡ record { task = coded.now; list = list.new.clauses })) }
+{
+    let (candidates, given) = wanted;
+    let candidates = candidates_of(rt, alloc, coded, &candidates)?;
+    let added = list.fresh(alloc, &candidates)?;
+    add_each(alloc, checker, added.as_slice())?;
+    match list.grow(alloc, coded, checker, added, proofs(alloc, &given)?) {
+        Ok(()) => Ok(Ok(())),
+        Err(OrMemory::Refused(refusal)) => Ok(Err(refusal)),
+        Err(OrMemory::Memory) => Err(Memory),
+    }
+}
+
+/// The list grows to what `check` gives.
+fn grow_as_checked(
+    rt: &impl Abort,
+    alloc: Global,
+    coded: &Coded,
+    list: &mut Closed,
+    checker: &mut StepChecker,
+    wanted: ([Numbers; 2], [Given; 2]),
+) -> Result<(), Memory>
+    requires task { problem list.old.task ≡ problem coded.now }
+    requires checker { checker.old ≡ record { task = coded.now; list = list.old.clauses } }
+    ensures task { problem list.new.task ≡ problem coded.now }
+    ensures checker { OnOk result
+        (checker.new ≡ record { task = coded.now; list = list.new.clauses }) }
+{
+    let (candidates, given) = wanted;
+    let Ok(expected) = check(rt, alloc, coded, list, candidates, given)? else {
+        panic!(rt; "not closed");
+    };
+    let Ok(()) = grow(rt, alloc, coded, list, checker, wanted)? else {
+        panic!(rt; "not grown");
+    };
+    assert_eq!(rt; numbers(list), numbers(&expected));
+    Ok(())
 }
 
 fn covers(
@@ -334,4 +412,72 @@ fn goes_on_from_a_list(rt: HostRuntime) -> Result<(), Fail> {
         assert_eq!(rt; numbers(&closed), expected);
     }
     Ok(())
+}
+
+// AB and BC come to the checker at 13 and 14.
+fn grow_twice(
+    rt: &impl Abort,
+    alloc: Global,
+    coded: &Coded,
+    list: &mut Closed,
+    checker: &mut StepChecker,
+) -> Result<(), Memory>
+    requires task { problem list.old.task ≡ problem coded.now }
+    requires checker { checker.old ≡ record { task = coded.now; list = list.old.clauses } }
+    ensures task { problem list.new.task ≡ problem coded.now }
+    ensures checker { OnOk result
+        (checker.new ≡ record { task = coded.now; list = list.new.clauses }) }
+{
+    let first = ([AB, NO], [Holds, Missing]);
+    grow_as_checked(rt, alloc, coded, list, checker, first)?;
+    let second = ([BC, AB], [NoLine, Holds]);
+    grow_as_checked(rt, alloc, coded, list, checker, second)?;
+    assert_eq!(rt; numbers(list), [AB, BC]);
+    Ok(())
+}
+
+// A refusal is that of `check`, and leaves the list as it was.
+fn refuse_as_checked(
+    rt: &impl Abort,
+    alloc: Global,
+    coded: &Coded,
+    list: &mut Closed,
+    checker: &mut StepChecker,
+) -> Result<(), Memory>
+    requires task { problem list.old.task ≡ problem coded.now }
+    requires checker { checker.old ≡ record { task = coded.now; list = list.old.clauses } }
+{
+    let refused = ([AC, NO], [Unfinished, Missing], Err(AT_FIRST));
+    assert!(rt; is_answered(rt, alloc, coded, list, refused)?);
+    let refused = ([AC, NO], [Unfinished, Missing]);
+    let grown = grow(rt, alloc, coded, list, checker, refused)?;
+    assert_eq!(rt; grown, Err(AT_FIRST));
+    assert_eq!(rt; numbers(list), [AB, BC]);
+    Ok(())
+}
+
+/// Both, one after the other.
+fn grow_and_refuse(
+    rt: &impl Abort,
+    alloc: Global,
+    coded: &Coded,
+    list: &mut Closed,
+    checker: &mut StepChecker,
+) -> Result<(), Memory>
+    requires task { problem list.old.task ≡ problem coded.now }
+    requires checker { checker.old ≡ record { task = coded.now; list = list.old.clauses } }
+{
+    grow_twice(rt, alloc, coded, list, checker)?;
+    refuse_as_checked(rt, alloc, coded, list, checker)
+}
+
+#[test]
+fn grows_by_one_checker(rt: HostRuntime) -> Result<(), Fail> {
+    let alloc = rt.alloc();
+    let task = ring_task(alloc)?;
+    let coded = Coded::new(alloc, &task)?;
+    let mut list = Closed::empty(alloc, &task)?;
+    let mut checker = StepChecker::new(alloc, &coded)?;
+    let grown = grow_and_refuse(&rt, alloc, &coded, &mut list, &mut checker);
+    Ok(grown?)
 }

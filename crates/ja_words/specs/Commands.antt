@@ -28,6 +28,11 @@ confirm_app = with_rule (with_rule (with_rule (bare_command (codes "confirm"))
     (positional (codes "design") true)) (positional (codes "stim") true))
     (positional (codes "expect") false)
 
+-- `demo N [--workers N]`
+unfoldable pub demo_app : App
+demo_app = with_rule (with_rule (bare_command (codes "demo")) (positional (codes "n") true))
+    (option (codes "workers"))
+
 -- `sign DESIGN [EXPECT]`
 abbrev pub sign_files : App
 sign_files = with_rule (with_rule (bare_command (codes "sign")) (positional (codes "design") true))

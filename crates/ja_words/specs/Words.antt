@@ -5,7 +5,7 @@ use Rattle.clap.specs.Words.{App, Row, fault_of, first_of, matches_of}
 use Rattle.ja_text.specs.Numbers.{number_at}
 use Rattle.ja_text.specs.Numbers as numbers
 use Rattle.ja_words.specs.declared.words.TheConstants as words
-use Rattle.ja_words.specs.Commands.{confirm_app, sign_app}
+use Rattle.ja_words.specs.Commands.{confirm_app, demo_app, sign_app}
 
 -- the names of the files of `confirm`; that of the expectations may be left out
 pub record Names : Type 0 where
@@ -24,20 +24,32 @@ pub record Order : Type 0 where
   pub fail_fast : Bool
   pub journal : Bool
 
+-- what `demo` is asked for: how many latches its ring has, and how many work at once
+pub record Demo : Type 0 where
+  pub n : ℕ
+  pub workers : ℕ
+
 -- what words ask for
 pub data Command : Type 0 where
   ToConfirm : Names → Command
   ToSign : Order → Command
+  ToDemo : Demo → Command
 
--- the number, if it is from 1 to `most`
-abbrev pub in_range : ℕ → Option ℕ → Option ℕ
-in_range most None = None
-in_range most (Some n) = if nat_le 1 n && nat_le n most then Some n else None
+-- the number, if it is from `least` to `most`
+abbrev pub in_range : ℕ → ℕ → Option ℕ → Option ℕ
+in_range least most None = None
+in_range least most (Some n) = if nat_le least n && nat_le n most then Some n else None
+
+-- the number that a word names, from `least` to `most`; without a word there is none
+abbrev pub named_number : ℕ → ℕ → Option (List ℕ) → Option ℕ
+named_number least most None = None
+named_number least most (Some text) =
+    in_range least most (numbers.whole_number (number_at text))
 
 -- the number that a word names, from 1 to `most`; without a word it is this one
 abbrev pub number_or : ℕ → ℕ → Option (List ℕ) → Option ℕ
 number_or plain most None = Some plain
-number_or plain most (Some text) = in_range most (numbers.whole_number (number_at text))
+number_or plain most (Some text) = in_range 1 most (numbers.whole_number (number_at text))
 
 -- the switch was given
 abbrev pub is_on : Option (List ℕ) → Bool
@@ -78,6 +90,17 @@ abbrev pub names_of : List Row → Option Names
 names_of rows = names_from (first_of (codes "design") rows) (first_of (codes "stim") rows)
     (first_of (codes "expect") rows)
 
+-- the size and the workers, if both are in range
+abbrev pub demo_from : Option ℕ → Option ℕ → Option Demo
+demo_from None workers = None
+demo_from (Some n) None = None
+demo_from (Some n) (Some workers) = Some (record { n = n; workers = workers })
+
+-- what the words behind `demo` ask for, as they were read
+abbrev pub demo_of : List Row → Option Demo
+demo_of rows = demo_from (named_number 3 1000 (first_of (codes "n") rows))
+    (number_or 1 8 (first_of (codes "workers") rows))
+
 -- the command takes the words
 abbrev pub is_taken : App → List (List ℕ) → Bool
 is_taken app rest = length (fault_of app rest) == 0
@@ -91,10 +114,14 @@ abbrev pub confirm_names : List (List ℕ) → Option Names
 confirm_names rest =
     if is_taken confirm_app rest then names_of (matches_of confirm_app rest) else None
 
+-- what words behind `demo` ask for
+abbrev pub demo_asked : List (List ℕ) → Option Demo
+demo_asked rest = if is_taken demo_app rest then demo_of (matches_of demo_app rest) else None
+
 -- the command whose form the words are in, if there is one
 abbrev pub command_of : List (List ℕ) → Option Command
 command_of [] = None
 command_of (first ∷ rest) = if bytes_eq first (codes "sign")
     then option_map ToSign (sign_order rest)
     else (if bytes_eq first (codes "confirm") then option_map ToConfirm (confirm_names rest)
-    else None)
+    else (if bytes_eq first (codes "demo") then option_map ToDemo (demo_asked rest) else None))

@@ -2,7 +2,7 @@
 
 ghost use Rattle.std.specs.Prelude.{◌≡◌, false, IfOk};
 ghost use Rattle.clap.specs.Words.{app_of, rule_of, with_rule};
-ghost use Rattle.ja_words.specs.Commands.{bare_command, confirm_app, sign_app, sign_files, positional, option, switch};
+ghost use Rattle.ja_words.specs.Commands.{bare_command, confirm_app, demo_app, sign_app, sign_files, positional, option, switch};
 
 use clap::{Arg, ArgAction, Command};
 use std::alloc::{AllocError, Global};
@@ -75,5 +75,14 @@ pub(crate) fn sign_command<'a>(alloc: Global) -> Result<Command<'a>, AllocError>
     let command = with(command, option(alloc, "budget"))?;
     let command = with(command, switch(alloc, "fail-fast"))?;
     let command = with(command, switch(alloc, "journal"))?;
+    Ok(command)
+}
+
+pub(crate) fn demo_command<'a>(alloc: Global) -> Result<Command<'a>, AllocError>
+    ensures { IfOk result (λ command. app_of command ≡ demo_app) }
+{
+    let command = bare_command(alloc, "demo");
+    let command = with(command, positional(alloc, "n", true))?;
+    let command = with(command, option(alloc, "workers"))?;
     Ok(command)
 }

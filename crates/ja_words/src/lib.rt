@@ -7,7 +7,9 @@ mod reading;
 mod words;
 
 pub use reading::read_words;
-pub use words::{Names, Order, PLAIN_BUDGET, Usage, Words};
+pub use words::{Demo, Names, Order, PLAIN_BUDGET, Usage, Words};
 
+#[cfg(test)]
+mod demo_tests;
 #[cfg(test)]
 mod tests;

@@ -3,13 +3,13 @@
 ghost use Rattle.std.specs.Prelude.{◌≡◌, ◌≤◌, true, false, map, option_map, string_bytes, Some, None, IfOk, IfSome};
 ghost use Rattle.clap.specs.Words.{app_of, fault_of, first_of, found_of, is_simple, is_simple_and_free, matches_of, rows_of};
 ghost use Rattle.ja_base.specs.Answers.{IfRefused};
-ghost use Rattle.ja_words.specs.Commands.{confirm_app, sign_app};
-ghost use Rattle.ja_words.specs.Words.{command_of, confirm_names, is_on, is_taken, names_from, names_of, order_from, order_of, sign_order};
-ghost use Rattle.ja_words.specs.Asked.{HasFewAsked, HasFewWorkers, asked, names, order};
+ghost use Rattle.ja_words.specs.Commands.{confirm_app, demo_app, sign_app};
+ghost use Rattle.ja_words.specs.Words.{command_of, confirm_names, demo_asked, demo_from, demo_of, is_on, is_taken, names_from, names_of, order_from, order_of, sign_order};
+ghost use Rattle.ja_words.specs.Asked.{HasFewWorkers, IsAskedInRange, IsDemoInRange, asked, demo, names, order};
 
-use crate::commands::{confirm_command, sign_command};
-use crate::numbers::number_or;
-use crate::words::{Names, Order, PLAIN_BUDGET, Usage, Words};
+use crate::commands::{confirm_command, demo_command, sign_command};
+use crate::numbers::{named_number, number_or};
+use crate::words::{Demo, Names, Order, PLAIN_BUDGET, Usage, Words};
 use clap::error::ErrorKind;
 use clap::{ArgMatches, Command};
 use ja_base::OrMemory;
@@ -117,6 +117,30 @@ fn names_of<'a>(matches: &ArgMatches<'a>) -> Option<Names<'a>>
     names_from(design, stim, text_of(matches, "expect"))
 }
 
+fn demo_from(n: Option<u64>, workers: Option<u64>) -> Option<Demo>
+    requires n { IfSome n (λ n. (3 ≤ n) × (n ≤ 1000)) }
+    requires workers { IfSome workers (λ n. (1 ≤ n) × (n ≤ 8)) }
+    ensures demo { option_map demo result ≡ demo_from n workers }
+    ensures range { IfSome result IsDemoInRange }
+{
+    match (n, workers) {
+        (Some(n), Some(workers)) => Some(Demo {
+            n: n as u32,
+            workers: workers as u32,
+        }),
+        _ => None,
+    }
+}
+
+fn demo_of<'a>(matches: &ArgMatches<'a>) -> Option<Demo>
+    ensures demo { option_map demo result ≡ demo_of (rows_of (found_of matches.now)) }
+    ensures range { IfSome result IsDemoInRange }
+{
+    let n = named_number(text_of(matches, "n"), 3, 1000);
+    let workers = number_or(text_of(matches, "workers"), 1, 8);
+    demo_from(n, workers)
+}
+
 fn read_sign<'a>(alloc: Global, words: &'a [String]) -> Result<Order<'a>, OrMemory<Usage>>
     ensures ok { IfOk result (λ o. sign_order (map string_bytes words.entry.now)
         ≡ Some (order o)) }
@@ -144,12 +168,26 @@ fn read_confirm<'a>(alloc: Global, words: &'a [String]) -> Result<Names<'a>, OrM
     }
 }
 
+fn read_demo<'a>(alloc: Global, words: &'a [String]) -> Result<Demo, OrMemory<Usage>>
+    ensures ok { IfOk result (λ d. demo_asked (map string_bytes words.entry.now)
+        ≡ Some (demo d)) }
+    ensures range { IfOk result IsDemoInRange }
+    ensures refused { IfRefused result (λ _. demo_asked (map string_bytes words.entry.now)
+        ≡ None) }
+{
+    let matches = matches_of(demo_command(alloc)?, words)?;
+    match demo_of(&matches) {
+        Some(demo) => Ok(demo),
+        None => Err(OrMemory::Refused(Usage)),
+    }
+}
+
 /// What the words ask for, which are those of a command line without the program's name. They are refused exactly where they are
 /// in no command's form.
 pub fn read_words<'a>(alloc: Global, words: &'a [String]) -> Result<Words<'a>, OrMemory<Usage>>
     ensures ok { IfOk result (λ w. command_of (map string_bytes words.entry.now)
         ≡ Some (asked w)) }
-    ensures workers { IfOk result HasFewAsked }
+    ensures range { IfOk result IsAskedInRange }
     ensures refused { IfRefused result (λ _. command_of (map string_bytes words.entry.now)
         ≡ None) }
 {
@@ -159,6 +197,7 @@ pub fn read_words<'a>(alloc: Global, words: &'a [String]) -> Result<Words<'a>, O
     match first.as_str() {
         "sign" => Ok(Words::Sign(read_sign(alloc, rest)?)),
         "confirm" => Ok(Words::Confirm(read_confirm(alloc, rest)?)),
+        "demo" => Ok(Words::Demo(read_demo(alloc, rest)?)),
         _ => Err(OrMemory::Refused(Usage)),
     }
 }

@@ -28,8 +28,18 @@ pub struct Order<'a> {
     pub journal: bool,
 }
 
+/// What `demo N [--workers N]` is asked for.
+#[derive(Clone, Copy, Debug, PartialEq, Eq)]
+pub struct Demo {
+    /// How many latches the ring has: from 3 to 1,000.
+    pub n: u32,
+    /// From 1 to 8.
+    pub workers: u32,
+}
+
 #[derive(Clone, Copy, Debug, PartialEq, Eq)]
 pub enum Words<'a> {
     Confirm(Names<'a>),
     Sign(Order<'a>),
+    Demo(Demo),
 }

@@ -15,8 +15,9 @@ use Rattle.report.specs.Findings.{Findings, marks_of}
 use Rattle.report.specs.Reports.{report_text}
 use Rattle.sign_task.specs.Sections.{assumed_of}
 use Rattle.jasign_run.specs.declared.outcome.Outcome.{Outcome}
-use Rattle.jasign_run.specs.declared.outcome.Outcome.TheVariants.{Replayed, Signed, Stopped}
+use Rattle.jasign_run.specs.declared.outcome.Outcome.TheVariants.{Replayed, Signed, Demonstrated, Stopped}
 use Rattle.jasign_run.specs.declared.outcome.Stop.{Stop}
+use Rattle.jasign_run.specs.Summary.{summary_text}
 use Rattle.jasign_run.specs.declared.outcome.Stop.TheVariants.{DesignRefused, StimulusRefused, ExpectRefused, Usage, Outside, Memory}
 
 -- words, and a number behind them or none
@@ -106,11 +107,12 @@ stop_rest Memory = ([], None)
 abbrev pub line_text : Phrase → Phrase → List ℕ
 line_text head rest = phrase_text head ++ phrase_text rest ++ 10 ∷ []
 
--- what the outcome writes: a line, or the text of a report
+-- what the outcome writes: a line, the text of a report, or its summary
 abbrev pub outcome_text : Outcome → List ℕ
 outcome_text (Replayed verdict prop steps) =
     line_text (verdict_head verdict prop) (verdict_rest verdict steps)
 outcome_text (Signed report) = report_text report
+outcome_text (Demonstrated size report) = summary_text size report
 outcome_text (Stopped stop) = line_text (stop_head stop) (stop_rest stop)
 
 -- 0 where a stimulus is a local failure, and 1 where it is not
@@ -138,10 +140,12 @@ report_status report = status_of (assumed_of report.lines) (marks_of report.line
 abbrev pub outcome_status : Outcome → ℕ
 outcome_status (Replayed verdict prop steps) = verdict_status verdict
 outcome_status (Signed report) = report_status report
+outcome_status (Demonstrated size report) = report_status report
 outcome_status (Stopped stop) = stop_status stop
 
--- the report that is handed back with the outcome: that of a sign-off
+-- the report that is handed back with the outcome: that of a sign-off or of a demonstration
 abbrev pub outcome_report : Outcome → Option Findings
 outcome_report (Replayed verdict prop steps) = None
 outcome_report (Signed report) = Some report
+outcome_report (Demonstrated size report) = Some report
 outcome_report (Stopped stop) = None

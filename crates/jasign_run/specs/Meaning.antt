@@ -13,12 +13,13 @@ use Rattle.report.specs.Findings.{Findings}
 use Rattle.sign_task.specs.declared.terms.Terms.{Terms}
 use Rattle.sign_task.specs.SignOff.{IsSignOff}
 use Rattle.jasign_run.specs.declared.outcome.Outcome.{Outcome}
-use Rattle.jasign_run.specs.declared.outcome.Outcome.TheVariants.{Replayed, Signed, Stopped}
+use Rattle.jasign_run.specs.declared.outcome.Outcome.TheVariants.{Replayed, Signed, Demonstrated, Stopped}
 use Rattle.jasign_run.specs.declared.outcome.Stop.{Stop}
 use Rattle.jasign_run.specs.declared.outcome.Stop.TheVariants.{DesignRefused, StimulusRefused, ExpectRefused, Usage, Outside, Memory}
 use Rattle.jasign_run.specs.Files.{IsDesignFile, NoDesign, IsStimulusFile, NoStimulus, IsExpected, NothingExpected, IsQuietStop}
+use Rattle.jasign_run.specs.Demo.{Demonstrates}
 use Rattle.jasign_run.specs.Lines.{outcome_text, outcome_status}
-use Rattle.ja_words.specs.Words.{Names, Order, Command, ToConfirm, ToSign, command_of}
+use Rattle.ja_words.specs.Words.{Names, Order, Demo, Command, ToConfirm, ToSign, ToDemo, command_of}
 
 -- the task of a design with what is expected
 abbrev pub task_of : Netlist → List Bool → VerificationTask
@@ -72,6 +73,7 @@ abbrev pub Confirms : Held → ℕ → ℕ → Names → Outcome → Type 0
 Confirms held before after names (Replayed verdict prop steps) =
     Replays held names verdict prop steps
 Confirms held before after names (Signed report) = ⊥
+Confirms held before after names (Demonstrated size report) = ⊥
 Confirms held before after names (Stopped stop) = StopsConfirm held before after names stop
 
 -- the terms of a sign-off, as its words say them; how many work at once is none of them
@@ -114,17 +116,27 @@ StopsSign held before after order Usage = ⊥
 abbrev pub Signs : Held → ℕ → ℕ → Order → Outcome → Type 0
 Signs held before after order (Replayed verdict prop steps) = ⊥
 Signs held before after order (Signed report) = SignsOff held order report
+Signs held before after order (Demonstrated size report) = ⊥
 Signs held before after order (Stopped stop) = StopsSign held before after order stop
 
--- what a command comes to
+-- what `demo` comes to: a demonstration of the size that its words name, or want of memory and nothing else
+abbrev pub Demos : Demo → Outcome → Type 0
+Demos demo (Replayed verdict prop steps) = ⊥
+Demos demo (Signed report) = ⊥
+Demos demo (Demonstrated size report) = (size ≡ demo.n) × Demonstrates demo report
+Demos demo (Stopped stop) = stop ≡ Memory
+
+-- what a command comes to; `demo` leaves the shelf alone
 abbrev pub Does : Held → ℕ → ℕ → Outcome → Command → Type 0
 Does held before after outcome (ToConfirm names) = Confirms held before after names outcome
 Does held before after outcome (ToSign order) = Signs held before after order outcome
+Does held before after outcome (ToDemo demo) = Demos demo outcome × (after ≡ before)
 
 -- the words are in no command's form
 abbrev pub IsUsage : Outcome → Type 0
 IsUsage (Replayed verdict prop steps) = ⊥
 IsUsage (Signed report) = ⊥
+IsUsage (Demonstrated size report) = ⊥
 IsUsage (Stopped Usage) = ⊤
 IsUsage (Stopped Memory) = ⊤
 IsUsage (Stopped (DesignRefused refusal)) = ⊥
@@ -141,6 +153,7 @@ Means held before after words outcome =
 abbrev pub IsQuiet : ℕ → ℕ → Outcome → Type 0
 IsQuiet before after (Replayed verdict prop steps) = after ≡ before
 IsQuiet before after (Signed report) = after ≡ before
+IsQuiet before after (Demonstrated size report) = after ≡ before
 IsQuiet before after (Stopped stop) = IsQuietStop before after stop
 
 -- The text was written with no fault, and the status is this one; or the sink failed, a part of it stands, and the status is 5.

@@ -47,6 +47,7 @@ fn status_of(alloc: Global, outcome: &Outcome) -> Result<u8, Memory>
     match outcome {
         Outcome::Replayed { verdict, .. } => Ok(verdict_status(*verdict)),
         Outcome::Signed(report) => report_status(alloc, report),
+        Outcome::Demonstrated { report, .. } => report_status(alloc, report),
         Outcome::Stopped(stop) => Ok(stop_status(stop)),
     }
 }
@@ -66,6 +67,7 @@ fn report_of(outcome: Outcome) -> Option<Report>
 {
     match outcome {
         Outcome::Signed(report) => Some(report),
+        Outcome::Demonstrated { report, .. } => Some(report),
         Outcome::Replayed { .. } | Outcome::Stopped(_) => None,
     }
 }

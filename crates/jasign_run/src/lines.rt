@@ -1,10 +1,11 @@
-//! The texts that are written: a table of words for each kind of line, and the report's own text.
+//! The texts that are written: a table of words for each kind of line, the report's own text, and its summary.
 
 ghost use Rattle.std.specs.Prelude.{◌≡◌, ℕ, ◌∷◌, [], ◌++◌, IfOk, OnOk};
 ghost use Rattle.report.specs.Reports.{report_text};
 ghost use Rattle.jasign_run.specs.Lines.{phrase_text, verdict_head, verdict_rest, large_words, design_phrase, stimulus_phrase, expect_phrase, stop_head, stop_rest, line_text, outcome_text};
 
 use crate::outcome::{Outcome, Stop};
+use crate::summary::summary_text;
 use aiger_lines::{Large, ReadRefusal};
 use expect_file::ExpectRefusal;
 use ja_base::Memory;
@@ -196,6 +197,7 @@ pub fn outcome_text(alloc: Global, outcome: &Outcome) -> Result<Text, Memory>
             steps,
         } => verdict_line(alloc, *verdict, *prop, *steps),
         Outcome::Signed(report) => report_text(alloc, report),
+        Outcome::Demonstrated { size, report } => summary_text(alloc, *size, report),
         Outcome::Stopped(stop) => stop_line(alloc, stop),
     }
 }

@@ -30,6 +30,11 @@ pub enum Outcome {
     },
     /// All properties were signed off in one report.
     Signed(Report),
+    /// The demonstration's design of so many latches was signed off.
+    Demonstrated {
+        size: u32,
+        report: Report,
+    },
     Stopped(Stop),
 }
 
@@ -38,6 +43,6 @@ pub enum Outcome {
 pub struct Ran {
     /// 0 to 6, as the command's table of statuses says.
     pub status: u8,
-    /// The report of a sign-off, also where its text could not be written.
+    /// The report of a sign-off or of a demonstration, also where its text could not be written.
     pub report: Option<Report>,
 }

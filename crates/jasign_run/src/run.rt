@@ -6,6 +6,7 @@ ghost use Rattle.jasign_run.specs.Lines.{outcome_report};
 ghost use Rattle.jasign_run.specs.declared.outcome.Outcome.{Outcome as Outcomes};
 
 use crate::confirm::confirm_run;
+use crate::demo::demo_run;
 use crate::ending::finish;
 use crate::outcome::{Outcome, Ran, Stop};
 use crate::sign::sign_run;
@@ -16,8 +17,8 @@ use std::alloc::Global;
 use std::sync::Wait;
 use std::thread::Threads;
 
-/// Does what the words say, which are those of a command line without the program's name, and writes one line or one report. The
-/// workers of a sign-off pass the gate.
+/// Does what the words say, which are those of a command line without the program's name, and writes one line, one report or
+/// the summary of one. The workers of a sign-off pass the gate.
 pub fn jasign_run<F: Shelf, K: Sink, G: Gate + Sync, R: Threads + Wait + Sync>(
     rt: &R,
     alloc: Global,
@@ -43,6 +44,7 @@ pub fn jasign_run<F: Shelf, K: Sink, G: Gate + Sync, R: Threads + Wait + Sync>(
             report: None,
         },
         Ok(Words::Sign(order)) => sign_run(rt, alloc, order, shelf, out, gate),
+        Ok(Words::Demo(demo)) => demo_run(rt, alloc, demo, out, gate),
         Err(OrMemory::Refused(_)) => finish(alloc, Outcome::Stopped(Stop::Usage), out),
         Err(OrMemory::Memory) => finish(alloc, Outcome::Stopped(Stop::Memory), out),
     }

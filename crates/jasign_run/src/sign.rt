@@ -38,21 +38,22 @@ fn terms_of(order: &Order) -> Terms
 }
 
 /// The report on the design under these expectations.
-fn report_on<G: Gate + Sync, R: Threads + Wait + Sync>(
+pub(crate) fn report_on<G: Gate + Sync, R: Threads + Wait + Sync>(
     rt: &R,
     alloc: Global,
     design: Design,
     expect: Expect,
-    order: &Order,
+    terms: Terms,
+    workers: u32,
     gate: &G,
 ) -> Result<Report, Memory>
     requires expected { length expect ≡ length design.bads }
-    requires workers { HasFewWorkers order.now }
-    ensures { IfOk result (IsSignOff (task_of design expect) (terms_of (order_read order.now))) }
+    requires some { 1 ≤ workers }
+    requires few { workers ≤ 8 }
+    ensures { IfOk result (IsSignOff (task_of design expect) terms) }
 {
     let task = Task::new(alloc, design, expect)?;
-    let terms = terms_of(order);
-    let report = sign::<Asked, Logging, G, R>(rt, alloc, &task, terms, order.workers, gate)?;
+    let report = sign::<Asked, Logging, G, R>(rt, alloc, &task, terms, workers, gate)?;
     Ok(report)
 }
 
@@ -78,7 +79,8 @@ fn outcome_of<F: Shelf, G: Gate + Sync, R: Threads + Wait + Sync>(
         Ok(expect) => expect,
         Err(stop) => return Outcome::Stopped(stop),
     };
-    match report_on(rt, alloc, design, expect, &order, gate) {
+    let terms = terms_of(&order);
+    match report_on(rt, alloc, design, expect, terms, order.workers, gate) {
         Ok(report) => Outcome::Signed(report),
         Err(Memory) => Outcome::Stopped(Stop::Memory),
     }

@@ -27,13 +27,13 @@ pub(crate) enum Move {
     Falsified(u32),
 }
 
-/// The place of a literal that is true.
+/// The place of a literal that is true, sought from the last one down.
 fn place_of(trail: &Trail, lit: Lit) -> u32
     requires { Contains (lits_of trail.now.places) lit }
     ensures at { slice_get (lits_of trail.now.places) result ≡ Some lit }
     ensures is { IsAssigned trail.now }
 {
-    for at in 0..trail.len() {
+    for at in (0..trail.len()).rev() {
         if trail.place(at).lit == lit {
             return at;
         }

@@ -197,16 +197,6 @@ fn first_point(
     Ok(None)
 }
 
-/// The first place that was decided, or the length of the trail.
-fn ground(trail: &Trail) -> u32 {
-    for at in 0..trail.len() {
-        if trail.place(at).reason.is_none() {
-            return at;
-        }
-    }
-    trail.len()
-}
-
 impl Walk {
     /// The reason by which the literal of a place is resolved: below the first decision each is, above it one that brings no
     /// new literal.
@@ -291,7 +281,7 @@ fn lowered(
         back: point.back,
         closed: false,
     };
-    let ground = ground(db.trail());
+    let ground = order.ground(db.trail());
     for at in (0..point.back).rev() {
         walk.lower(db, order, at, ground)?;
     }

@@ -21,8 +21,9 @@ const FADES_EVERY: u32 = 16;
 pub(crate) const MOST_VARS: u32 = 1 << 31;
 
 /// Variables by their activity, the sign of each when it last had a value, how many conflicts came since activities faded, how
-/// many of the variables that a question gives were passed by, and the first variable that may have no value and is not in
-/// the heap. One that took part in no conflict since its activity faded does not come back to the heap.
+/// many of the variables that a question gives were passed by, the first variable that may have no value and is not in
+/// the heap, and how many of the trail's first places were found to be forced. A variable that took part in no conflict since its
+/// activity faded does not come back to the heap.
 #[derive(Debug, Drop)]
 pub(crate) struct Order {
     heap: Heap,
@@ -30,6 +31,7 @@ pub(crate) struct Order {
     conflicts: u32,
     passed: usize,
     least: u32,
+    ground: u32,
 }
 
 impl Model for Order {
@@ -76,6 +78,7 @@ impl Order {
             conflicts: 0,
             passed: 0,
             least: 0,
+            ground: 0,
         })
     }
 
@@ -134,9 +137,24 @@ impl Order {
         ensures is { IsAssigned trail.now }
     {
         self.passed = 0;
+        self.ground = self.ground.min(to);
         for at in to..trail.len() {
             self.release(trail.place(at).lit);
         }
+    }
+
+    /// The first place that was decided, or the length of the trail. The search goes on where it ended before.
+    pub(crate) fn ground(&mut self, trail: &Trail) -> u32
+        ensures { self.new ≡ self.old }
+    {
+        for at in self.ground..trail.len() {
+            if trail.place(at).reason.is_none() {
+                self.ground = at;
+                return at;
+            }
+        }
+        self.ground = trail.len();
+        trail.len()
     }
 
     /// A variable without a value that is in the heap, of the greatest activity.

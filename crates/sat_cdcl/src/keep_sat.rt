@@ -22,14 +22,14 @@ use std::alloc::Global;
 use std::marker::Model;
 
 /// A kept clause of more literals is dropped when the kept ones are reduced.
-const SHORT: usize = 8;
+const SHORT: usize = 3;
 
-/// So many clauses are never reduced.
-const FEW: u32 = 2000;
+/// So many kept clauses are never reduced.
+const FEW: u32 = 1000;
 
-/// A solver for questions without a log. From question to question it keeps what it learnt, but for what rests on an extra
-/// clause, and all that `LearnSat` keeps; now and then it drops the long ones of these clauses. A query with a log is handed to a
-/// `LearnSat` that is made for it.
+/// A solver for questions without a log. From question to question it keeps the short clauses that it learnt, but for what rests
+/// on an extra clause, and all that `LearnSat` keeps; now and then it drops the longer ones of these clauses. A query with a log
+/// is handed to a `LearnSat` that is made for it.
 #[derive(Debug, Drop)]
 pub struct KeepSat {
     db: Database,
@@ -206,15 +206,21 @@ impl KeepSat {
         }
     }
 
-    /// Drops the long clauses among those that it kept, once there are many.
+    /// How many clauses it has beside the added ones.
+    fn kept(&self) -> u32 {
+        self.db.len().saturating_sub(self.added.len() as u32)
+    }
+
+    /// Drops the longer clauses among those that it kept, once there are many.
     pub(crate) fn reduce(&mut self, alloc: Global)
         ensures { self.new ≡ self.old }
     {
-        if self.db.len() <= self.most {
+        if self.kept() <= self.most {
             return;
         }
         self.shrink(alloc);
-        self.most = self.db.len().saturating_mul(2).max(FEW);
+        let more = FEW.max(self.db.len() / 2);
+        self.most = self.kept().saturating_add(more);
     }
 
     /// A question behind its first unit. What the clauses force stays on the trail, and what follows from the added ones alone

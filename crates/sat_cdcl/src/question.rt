@@ -14,8 +14,11 @@ use ja_base::{Clause, Memory};
 use refute_check::{Hints, Line, Lines};
 use std::alloc::Global;
 
+/// A clause of more literals is not kept behind its question.
+const LONGEST: usize = 6;
+
 /// A query that logs no line; the number of the first clause that came in it; for each since then, whether it may rest on the
-/// extra one; and copies of those that do not.
+/// extra one; and copies of the short ones that do not.
 #[derive(Debug, Drop)]
 pub(crate) struct Question {
     pub(crate) query: Query,
@@ -69,7 +72,7 @@ impl Question {
         false
     }
 
-    /// A copy is kept, unless the clause may rest on the extra one.
+    /// A copy is kept, unless the clause may rest on the extra one or is long.
     pub(crate) fn note(
         &mut self,
         alloc: Global,
@@ -85,6 +88,9 @@ impl Question {
             → All (IsKeepable vars added) self.new.kept.items }
     {
         if tainted {
+            return Ok(());
+        }
+        if clause.lits().len() > LONGEST {
             return Ok(());
         }
         let copy = clause.copy(alloc)?;

@@ -1,7 +1,8 @@
 //! What becomes of a question to the engine of the calling thread.
 
 ghost use Rattle.std.specs.Prelude.{◌≡◌, ◌<◌, ◌⊎◌, length, IfOk, OnOk};
-ghost use Rattle.worker_pool.specs.Judgements.{IsEngine, Settles, judged_property, unset};
+ghost use Rattle.ic3_engine.specs.Engines.{IsReadyFor};
+ghost use Rattle.worker_pool.specs.Judgements.{Settles, judged_property, unset};
 ghost use Rattle.sign_task.specs.Underway.{IsUnderway, IsHalted, IsMarked, Keeps};
 
 use crate::halting::halt;
@@ -20,12 +21,12 @@ fn ask_on<S: Probe, L: Sat>(
     alloc: Global,
     coded: &Coded,
     prop: u32,
-    engine: &mut Engine<S>,
+    engine: &mut Engine<S, L>,
     meter: &mut Meter,
 ) -> Result<Judgement, Memory>
     requires within { prop < length coded.now.design.bads }
-    requires engine { IsEngine S.count S.added coded.now engine.old }
-    ensures engine { IsEngine S.count S.added coded.now engine.new }
+    requires engine { IsReadyFor S.count S.added coded.now engine.old }
+    ensures engine { IsReadyFor S.count S.added coded.now engine.new }
     ensures judged { IfOk result (Settles coded.now prop meter.old.limit) }
     ensures falls { IfOk result (λ judged. (judged_property judged prop ≡ prop)
         ⊎ (unset engine.new.failed < unset engine.old.failed)) }
@@ -44,16 +45,16 @@ pub(crate) fn turn<S: Probe, L: Sat>(
     coded: &Coded,
     terms: Terms,
     prop: u32,
-    engine: &mut Engine<S>,
+    engine: &mut Engine<S, L>,
     meter: &mut Meter,
     board: &mut SignBoard,
 ) -> Result<u32, Memory>
     requires within { prop < length coded.now.design.bads }
-    requires engine { IsEngine S.count S.added coded.now engine.old }
+    requires engine { IsReadyFor S.count S.added coded.now engine.old }
     requires underway { IsUnderway coded.now terms board.old }
     requires halted { IsHalted coded.now board.old }
     requires limit { meter.old.limit ≡ terms.limit }
-    ensures engine { IsEngine S.count S.added coded.now engine.new }
+    ensures engine { IsReadyFor S.count S.added coded.now engine.new }
     ensures kept { OnOk result (Keeps board.old board.new) }
     ensures halted { OnOk result (IsHalted coded.now board.new) }
     ensures marked { IfOk result (IsMarked board.new) }

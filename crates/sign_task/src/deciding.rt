@@ -1,7 +1,7 @@
 //! A property that the workers left open.
 
 ghost use Rattle.std.specs.Prelude.{◌<◌, length, OnOk};
-ghost use Rattle.worker_pool.specs.Judgements.{IsEngine};
+ghost use Rattle.ic3_engine.specs.Engines.{IsReadyFor};
 ghost use Rattle.sign_task.specs.Underway.{IsUnderway, IsHalted, IsMarked, Keeps};
 
 use crate::asking::turn;
@@ -19,14 +19,14 @@ pub(crate) fn decide<S: Probe, L: Sat>(
     coded: &Coded,
     terms: Terms,
     prop: u32,
-    engine: &mut Engine<S>,
+    engine: &mut Engine<S, L>,
     board: &mut SignBoard,
 ) -> Result<(), Memory>
     requires within { prop < length coded.now.design.bads }
-    requires engine { IsEngine S.count S.added coded.now engine.old }
+    requires engine { IsReadyFor S.count S.added coded.now engine.old }
     requires underway { IsUnderway coded.now terms board.old }
     requires halted { IsHalted coded.now board.old }
-    ensures engine { IsEngine S.count S.added coded.now engine.new }
+    ensures engine { IsReadyFor S.count S.added coded.now engine.new }
     ensures kept { OnOk result (Keeps board.old board.new) }
     ensures halted { OnOk result (IsHalted coded.now board.new) }
     ensures marked { OnOk result (IsMarked board.new prop) }

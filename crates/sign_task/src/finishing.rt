@@ -3,7 +3,7 @@
 ghost use Rattle.std.specs.Prelude.{◌≡◌, ◌<◌, None, length, is_some, IfOk, OnOk, true};
 ghost use Rattle.std.specs.Bool.{OnTrue};
 ghost use Rattle.store_core.specs.Steps.{mark_of};
-ghost use Rattle.worker_pool.specs.Judgements.{IsEngine};
+ghost use Rattle.ic3_engine.specs.Engines.{IsReadyFor};
 ghost use Rattle.sign_task.specs.Replies.{is_gave_up};
 ghost use Rattle.sign_task.specs.Underway.{IsUnderway, IsHalted, IsMarked, IsOver, Keeps};
 
@@ -57,14 +57,14 @@ fn close<S: Probe, L: Sat>(
     coded: &Coded,
     terms: Terms,
     prop: u32,
-    engine: &mut Engine<S>,
+    engine: &mut Engine<S, L>,
     board: &mut SignBoard,
 ) -> Result<(), Memory>
     requires within { prop < length coded.now.design.bads }
-    requires engine { IsEngine S.count S.added coded.now engine.old }
+    requires engine { IsReadyFor S.count S.added coded.now engine.old }
     requires underway { IsUnderway coded.now terms board.old }
     requires halted { IsHalted coded.now board.old }
-    ensures engine { IsEngine S.count S.added coded.now engine.new }
+    ensures engine { IsReadyFor S.count S.added coded.now engine.new }
     ensures kept { OnOk result (Keeps board.old board.new) }
     ensures halted { OnOk result (IsHalted coded.now board.new) }
     ensures marked { OnOk result (IsMarked board.new prop) }
@@ -76,9 +76,32 @@ fn close<S: Probe, L: Sat>(
     if give_up(coded, terms, prop, board)? {
         return Ok(());
     }
-    decide::<S, L>(alloc, coded, terms, prop, engine, board)
+    decide(alloc, coded, terms, prop, engine, board)
 }
 
+/// Each property without a mark is given up, or decided on the engine.
+fn close_each<S: Probe, L: Sat>(
+    alloc: Global,
+    coded: &Coded,
+    terms: Terms,
+    engine: &mut Engine<S, L>,
+    board: &mut SignBoard,
+) -> Result<(), Memory>
+    requires engine { IsReadyFor S.count S.added coded.now engine.old }
+    requires underway { IsUnderway coded.now terms board.old }
+    requires halted { IsHalted coded.now board.old }
+    ensures engine { IsReadyFor S.count S.added coded.now engine.new }
+    ensures underway { OnOk result (IsUnderway coded.now terms board.new) }
+    ensures halted { OnOk result (IsHalted coded.now board.new) }
+    ensures over { OnOk result (IsOver coded.now board.new) }
+{
+    for prop in 0..coded.task().design().props() {
+        close(alloc, coded, terms, prop, engine, board)?;
+    }
+    Ok(())
+}
+
+/// The same, on an engine that knows the board's list.
 fn close_all<S: Probe, L: Sat>(
     alloc: Global,
     coded: &Coded,
@@ -91,11 +114,8 @@ fn close_all<S: Probe, L: Sat>(
     ensures halted { OnOk result (IsHalted coded.now board.new) }
     ensures over { OnOk result (IsOver coded.now board.new) }
 {
-    let mut engine: Engine<S> = Engine::new(alloc, coded, board.list())?;
-    for prop in 0..coded.task().design().props() {
-        close::<S, L>(alloc, coded, terms, prop, &mut engine, board)?;
-    }
-    Ok(())
+    let mut engine: Engine<S, L> = Engine::new(alloc, coded, board.list())?;
+    close_each(alloc, coded, terms, &mut engine, board)
 }
 
 /// Whatever was settled before, each property has a mark at the end: what had none is given up where a Cancel stands, and decided

@@ -1,5 +1,5 @@
 -- What a judgement settles, and that a failure of another property is seen once.
-use Rattle.std.proofs.Common.{◌≡◌, ℕ, zero, suc, ◌<◌, ◌⊎◌, inl, inr, ⊎_elim, Bool, true, false, Option, Some, List, [], ◌∷◌, length, refl, sym, ap, subst, ◌∙◌, arith}
+use Rattle.std.proofs.Common.{◌≡◌, ℕ, zero, suc, ◌<◌, ◌+◌, ◌-◌, ◌⊎◌, inl, inr, ⊎_elim, Bool, true, false, Option, Some, List, [], ◌∷◌, length, refl, sym, ap, subst, ◌∙◌, arith}
 use Rattle.std.specs.Prelude.{slice_set}
 use Rattle.std.proofs.lemmas.Bool.{cases_lt, false≢true}
 use Rattle.std.proofs.lemmas.List.{get_or_past}
@@ -13,8 +13,10 @@ use Rattle.local_stim.specs.Found.{FoundFailure}
 use Rattle.store_core.specs.declared.answers.Judged.{Judged}
 use Rattle.store_core.specs.declared.answers.Judged.TheVariants.{Proved, Fails, Spent}
 use Rattle.store_core.specs.Judged.{IfFails, IfProved, IfSpent}
-use Rattle.ic3_engine.specs.Found.{IsFailureSeen, IsUnseen}
-use Rattle.worker_pool.specs.Judgements.{Settles, judged_property, unset}
+use Rattle.ic3_engine.specs.declared.found.Found.{Found}
+use Rattle.ic3_engine.specs.declared.found.Found.TheVariants as found
+use Rattle.ic3_engine.specs.Found.{IsFailureSeen, IsFound, IsUnseen, noted}
+use Rattle.worker_pool.specs.Judgements.{Settles, judged_property, judgement_of, unset}
 
 assumed_within : (t : VerificationTask) (p : ℕ) → length t.expected ≡ length t.design.bads → bit t.expected p ≡ true
     → p < length t.design.bads
@@ -46,6 +48,31 @@ failure_falls t p failed now f h seen wide long = ⊎_elim (λ (e : f.prop ≡ p
     inr (subst (λ (bs : List Bool). unset bs < unset failed) (sym seen)
     (unset_falls failed f.prop (omega (arith, wide, assumed_within t f.prop long u.assumed)) u.unseen)))
     h.prop
+
+-- what was found may be settled
+pub found_settles : (t : VerificationTask) (p : ℕ) (limit : Option ℕ) (failed : List Bool) (x : Found) → IsFound t p failed x
+    → length t.expected ≡ length t.design.bads → p < length t.design.bads → Settles t p limit (judgement_of x)
+found_settles t p limit failed (found.Proved proved) h long within = record {
+  task = h.task;
+  covers = subst (λ (q : ℕ). Covers (circuit proved.list.task.design) proved.list.clauses q) h.prop proved.covered;
+}
+found_settles t p limit failed (found.Fails f) h long within = failure_settles t p failed f h long within
+
+-- it is of the property, or a bit more is set
+pub found_falls : (t : VerificationTask) (p : ℕ) (failed now : List Bool) (x : Found) → IsFound t p failed x → now ≡ noted failed x
+    → length failed ≡ length t.design.bads → length t.expected ≡ length t.design.bads
+    → (judged_property (judgement_of x) p ≡ p) ⊎ (unset now < unset failed)
+found_falls t p failed now (found.Proved proved) h is wide long = inl refl
+found_falls t p failed now (found.Fails f) h is wide long = failure_falls t p failed now f h is wide long
+
+-- how often the top may still rise: once more where the levels are made anew
+abbrev pub left : ℕ → ℕ → Bool → ℕ
+left bound top true = bound - top
+left bound top false = bound + 1
+
+pub left_falls : (bound top now : ℕ) (live : Bool) → (live ≡ true → now ≡ top + 1) → now < bound → left bound now true < left bound top live
+left_falls bound top now true rises low = let is = rises refl in omega (arith, is, low)
+left_falls bound top now false rises low = omega (arith, low)
 
 pub failure_within : (t : VerificationTask) (p : ℕ) (limit : Option ℕ) (j : Judged ClosedList FoundFailure)
     → Settles t p limit j → IfFails j (λ f. f.prop < length t.design.bads)

@@ -1,4 +1,4 @@
--- An engine between two questions, and what it answers as a judgement.
+-- What an engine answers, as a judgement.
 use Rattle.std.specs.Prelude.{◌≡◌, ℕ, ◌+◌, ◌<◌, Bool, Option, Some, List, [], ◌∷◌, length, if◌then◌else◌}
 use Rattle.ja_base.specs.Invariants.{Covers}
 use Rattle.aig_model.specs.Netlist.{circuit}
@@ -7,19 +7,8 @@ use Rattle.inv_cert.specs.Closed.{ClosedList}
 use Rattle.local_stim.specs.Found.{FoundFailure}
 use Rattle.store_core.specs.declared.answers.Judged.{Judged}
 use Rattle.store_core.specs.declared.answers.Judged.TheVariants.{Proved, Fails, Spent}
-use Rattle.ic3_query.specs.Questions.{IsRoom}
-use Rattle.ic3_engine.specs.declared.engine.Engine.{Engine}
-use Rattle.ic3_engine.specs.Engines.{IsReady}
-use Rattle.ic3_engine.specs.Turns.{state}
-
--- The engine is ready for a property of the task; `count` and `added` tell the variables and the clauses of its solver.
-pub record IsEngine {S : Type 0} (count : S → ℕ) (added : S → List (List ℕ))
-    (t : VerificationTask) (engine : Engine S) : Type 0 where
-  pub ready : IsReady t
-      (state engine.search.known engine.search.frames engine.search.queue
-      (count engine.search.solver) (added engine.search.solver))
-      engine.table engine.failed engine.live
-  pub room : IsRoom t.design engine.search.room.row engine.search.room.vals
+use Rattle.ic3_engine.specs.declared.found.Found.{Found}
+use Rattle.ic3_engine.specs.declared.found.Found.TheVariants as found
 
 -- a closed list of the task that covers the property
 pub record IsProof (t : VerificationTask) (p : ℕ) (list : ClosedList) : Type 0 where
@@ -37,6 +26,11 @@ abbrev pub judged_property : Judged ClosedList FoundFailure → ℕ → ℕ
 judged_property (Proved list) p = p
 judged_property (Fails failure) p = failure.prop
 judged_property (Spent units) p = p
+
+-- what was found, as a judgement
+abbrev pub judgement_of : Found → Judged ClosedList FoundFailure
+judgement_of (found.Proved proved) = Proved proved.list
+judgement_of (found.Fails failure) = Fails failure
 
 -- how many bits are 0
 abbrev pub unset : List Bool → ℕ

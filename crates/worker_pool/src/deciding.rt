@@ -4,10 +4,11 @@ ghost use Rattle.std.specs.Prelude.{◌≡◌, ◌<◌, ◌⊎◌, length, IfOk}
 ghost use Rattle.aig_model.specs.Task.{problem};
 ghost use Rattle.store_core.specs.Judged.{IfFails};
 ghost use Rattle.desk.specs.Seats.{IsLater};
-ghost use Rattle.worker_pool.specs.Judgements.{IsEngine, Settles, judged_property, unset};
+ghost use Rattle.ic3_engine.specs.Engines.{IsReadyFor};
+ghost use Rattle.worker_pool.specs.Judgements.{Settles, judged_property, unset};
 ghost use Rattle.worker_pool.specs.Pools.{IsPool};
 
-use crate::asking::{Judgement, ask};
+use crate::asking::{Judgement, ask_among};
 use cancel_flag::{CancelFlag, FlagView};
 use desk::{Desk, Seat};
 use ic3_engine::Engine;
@@ -117,20 +118,31 @@ fn turn<S: Probe, L: Sat, N: Naming, R: Wait>(
     seat: &mut Seat<N>,
     coded: &Coded,
     prop: u32,
-    engine: &mut Engine<S>,
+    engine: &mut Engine<S, L>,
     meter: &mut Meter,
     flag: &CancelFlag,
 ) -> Result<u32, Memory>
     requires within { prop < length coded.now.design.bads }
-    requires engine { IsEngine S.count S.added coded.now engine.old }
+    requires engine { IsReadyFor S.count S.added coded.now engine.old }
     requires pool { IsPool N.opening N.task coded.now meter.old.limit flag.now.may }
     ensures seat { IsLater seat.old seat.new }
-    ensures engine { IsEngine S.count S.added coded.now engine.new }
+    ensures engine { IsReadyFor S.count S.added coded.now engine.new }
     ensures falls { IfOk result (λ p. (p ≡ prop)
         ⊎ (unset engine.new.failed < unset engine.old.failed)) }
     ensures limit { meter.new.limit ≡ meter.old.limit }
 {
-    match ask::<S, L, FlagView<'_>>(alloc, coded, prop, engine, meter, &mut flag.view())? {
+    let answer = ask_among::<S, L, FlagView<'_>, N, R>(
+        rt,
+        alloc,
+        desk,
+        seat,
+        coded,
+        prop,
+        engine,
+        meter,
+        &mut flag.view(),
+    )?;
+    match answer {
         Some(judged) => settle(rt, alloc, desk, seat, coded, prop, judged, flag),
         None => give_up(rt, alloc, desk, seat, prop),
     }
@@ -146,14 +158,14 @@ pub(crate) fn decide<S: Probe, L: Sat, N: Naming, R: Wait>(
     coded: &Coded,
     prop: u32,
     limit: Option<u64>,
-    engine: &mut Engine<S>,
+    engine: &mut Engine<S, L>,
     flag: &CancelFlag,
 ) -> Result<(), Memory>
     requires within { prop < length coded.now.design.bads }
-    requires engine { IsEngine S.count S.added coded.now engine.old }
+    requires engine { IsReadyFor S.count S.added coded.now engine.old }
     requires pool { IsPool N.opening N.task coded.now limit flag.now.may }
     ensures seat { IsLater seat.old seat.new }
-    ensures engine { IsEngine S.count S.added coded.now engine.new }
+    ensures engine { IsReadyFor S.count S.added coded.now engine.new }
 {
     let mut meter = Meter::new(limit);
     loop {

@@ -7,7 +7,7 @@ mod no_rows;
 mod rings;
 
 use crate::tests::no_rows::NoRows;
-use crate::tests::rings::{EIGHT, RING, TWO, open, ring_list};
+use crate::tests::rings::{EIGHT, LATER, RING, TWO, open, ring_list};
 use crate::work_all;
 use cancel_flag::CancelFlag;
 use desk::Desk;
@@ -115,6 +115,15 @@ fn has_reply(parts: &Parts<Closed, LocalFailure>, reply: Reply) -> bool {
         .any(|entry| entry.reply == reply)
 }
 
+fn imports(parts: &Parts<Closed, LocalFailure>) -> usize {
+    parts
+        .journal
+        .as_slice()
+        .iter()
+        .filter(|entry| matches!(entry.event, Event::Import))
+        .count()
+}
+
 #[test]
 fn two_workers_meet(rt: HostRuntime) -> Result<(), Fail> {
     let alloc = rt.alloc();
@@ -168,6 +177,21 @@ fn has_a_budget_for_each_property(rt: HostRuntime) -> Result<(), Fail> {
         )?;
         assert_eq!(rt; parts.marks.as_slice(), [Some(Proved); 8].as_slice());
     }
+    Ok(())
+}
+
+// At the level 1 the cube of the third latch is blocked. At the level 2 that of the second one is blocked at the level 1 and waits
+// again one level higher, where the first latch leads to it in two steps from the start: so the top rises once.
+#[test]
+fn looks_at_the_list_where_the_top_rises(rt: HostRuntime) -> Result<(), Fail> {
+    let alloc = rt.alloc();
+    let (board, coded) = open(alloc, LATER, false, None).ok_or("no design")?;
+    let list = Closed::empty(alloc, coded.task())?;
+    let parts = left_by::<PlainSat, PlainSat, OpenGate, HostRuntime>(
+        &rt, alloc, board, &coded, &list, 1, false, &OpenGate,
+    )?;
+    assert_eq!(rt; parts.marks.as_slice(), [Some(Fails)].as_slice());
+    assert_eq!(rt; imports(&parts), 1);
     Ok(())
 }
 

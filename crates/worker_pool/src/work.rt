@@ -3,7 +3,7 @@
 ghost use Rattle.std.specs.Prelude.{◌≡◌, ◌<◌, length, IfOk, IfSome};
 ghost use Rattle.aig_model.specs.Task.{problem};
 ghost use Rattle.desk.specs.Seats.{IsLater};
-ghost use Rattle.worker_pool.specs.Judgements.{IsEngine};
+ghost use Rattle.ic3_engine.specs.Engines.{IsReadyFor};
 ghost use Rattle.worker_pool.specs.Pools.{IsPool};
 
 use crate::deciding::decide;
@@ -47,15 +47,15 @@ fn answer<S: Probe, L: Sat, G: Gate, N: Naming, R: Wait>(
     coded: &Coded,
     prop: u32,
     limit: Option<u64>,
-    engine: &mut Engine<S>,
+    engine: &mut Engine<S, L>,
     flag: &CancelFlag,
     gate: &G,
 ) -> Result<(), Memory>
     requires within { prop < length coded.now.design.bads }
-    requires engine { IsEngine S.count S.added coded.now engine.old }
+    requires engine { IsReadyFor S.count S.added coded.now engine.old }
     requires pool { IsPool N.opening N.task coded.now limit flag.now.may }
     ensures seat { IsLater seat.old seat.new }
-    ensures engine { IsEngine S.count S.added coded.now engine.new }
+    ensures engine { IsReadyFor S.count S.added coded.now engine.new }
 {
     gate.pass(GatePoint::Drawn);
     decide::<S, L, N, R>(rt, alloc, desk, seat, coded, prop, limit, engine, flag)?;
@@ -63,8 +63,42 @@ fn answer<S: Probe, L: Sat, G: Gate, N: Naming, R: Wait>(
     Ok(())
 }
 
-/// Decides each property that the desk gives, until it gives none. The engine knows the first list that was drawn, and takes up
-/// what is new in each further one.
+/// Decides the first property, and each further one that the desk gives, until it gives none. The engine takes up what is new in
+/// each further list.
+fn decide_on<S: Probe, L: Sat, G: Gate, N: Naming, R: Wait>(
+    rt: &R,
+    alloc: Global,
+    desk: &Desk<Closed, LocalFailure, N>,
+    seat: &mut Seat<N>,
+    coded: &Coded,
+    first: u32,
+    limit: Option<u64>,
+    engine: &mut Engine<S, L>,
+    flag: &CancelFlag,
+    gate: &G,
+) -> Result<(), Memory>
+    requires within { first < length coded.now.design.bads }
+    requires engine { IsReadyFor S.count S.added coded.now engine.old }
+    requires pool { IsPool N.opening N.task coded.now limit flag.now.may }
+    ensures seat { IsLater seat.old seat.new }
+    ensures engine { IsReadyFor S.count S.added coded.now engine.new }
+{
+    answer(
+        rt, alloc, desk, seat, coded, first, limit, engine, flag, gate,
+    )?;
+    for _ in rt.forever() {
+        let Some((prop, view)) = next(rt, alloc, desk, seat)? else {
+            break;
+        };
+        learn(alloc, coded, engine, &view)?;
+        answer(
+            rt, alloc, desk, seat, coded, prop, limit, engine, flag, gate,
+        )?;
+    }
+    Ok(())
+}
+
+/// Decides each property that the desk gives. The engine knows the first list that was drawn.
 fn decide_drawn<S: Probe, L: Sat, G: Gate, N: Naming, R: Wait>(
     rt: &R,
     alloc: Global,
@@ -81,8 +115,8 @@ fn decide_drawn<S: Probe, L: Sat, G: Gate, N: Naming, R: Wait>(
     let Some((prop, view)) = next(rt, alloc, desk, seat)? else {
         return Ok(());
     };
-    let mut engine: Engine<S> = Engine::new(alloc, coded, &view)?;
-    answer::<S, L, G, N, R>(
+    let mut engine: Engine<S, L> = Engine::new(alloc, coded, &view)?;
+    decide_on(
         rt,
         alloc,
         desk,
@@ -93,26 +127,7 @@ fn decide_drawn<S: Probe, L: Sat, G: Gate, N: Naming, R: Wait>(
         &mut engine,
         flag,
         gate,
-    )?;
-    for _ in rt.forever() {
-        let Some((prop, view)) = next(rt, alloc, desk, seat)? else {
-            break;
-        };
-        learn(alloc, coded, &mut engine, &view)?;
-        answer::<S, L, G, N, R>(
-            rt,
-            alloc,
-            desk,
-            seat,
-            coded,
-            prop,
-            limit,
-            &mut engine,
-            flag,
-            gate,
-        )?;
-    }
-    Ok(())
+    )
 }
 
 /// A worker keeps its seat, which comes back.

@@ -25,6 +25,9 @@ pub(crate) const RING: &[u8] =
 /// Two latches: the first is 1 from step 1 on, the second one step later.
 pub(crate) const TWO: &[u8] = b"aag 2 0 2 0 0 2\n2 1\n4 2\n2\n4\n";
 
+/// Three latches, each of which is 1 one step after the one before it; the property is broken at step 3.
+pub(crate) const LATER: &[u8] = b"aag 3 0 3 0 0 1\n2 1\n4 2\n6 4\n6\n";
+
 /// Eight properties that are never broken.
 pub(crate) const EIGHT: &[u8] = b"aag 0 0 0 0 0 8\n0\n0\n0\n0\n0\n0\n0\n0\n";
 

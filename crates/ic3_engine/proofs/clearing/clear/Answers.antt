@@ -8,13 +8,13 @@ pass-requires-clause-search g c =
     record {
       search = s.search;
       task = s.task;
-      waiting = others_wait c.args.coded.now c.args.prop c.loop-next.z.frames.top c.loop-next.z.queue c.take.new.self c.in-Some.next
+      waiting = others_wait c.args.coded.now c.args.aim.now c.loop-next.z.frames.top c.loop-next.z.queue c.take.new.self c.in-Some.next
           s.waiting c.in-Some.ensures.taken;
     }
 
 pub pass-requires-clause-waits : goal.pass-requires-clause-waits
 pass-requires-clause-waits g c =
-    taken_waits c.args.coded.now c.args.prop c.loop-next.z.frames.top c.loop-next.z.queue c.take.new.self c.in-Some.next
+    taken_waits c.args.coded.now c.args.aim.now c.loop-next.z.frames.top c.loop-next.z.queue c.take.new.self c.in-Some.next
     c.loop-next.invariant.goes_on.searching.waiting c.in-Some.ensures.taken
 
 pub loop-next-smaller : goal.loop-next-smaller

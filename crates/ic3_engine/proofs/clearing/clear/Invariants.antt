@@ -9,7 +9,7 @@ use Rattle.ic3_engine.proofs.clearing.clear.Given as goal
 
 abbrev pub invariant-loop-next : goal.invariant-loop-next
 invariant-loop-next g l = record {
-  goes_on : GoesOn l.coded l.prop
+  goes_on : GoesOn l.coded l.aim
       (state l.fn.z.known l.fn.z.frames l.fn.z.queue (g.S.Sat.count l.fn.z.solver) (g.S.Sat.added l.fn.z.solver))
       (state l.z.known l.z.frames l.z.queue (g.S.Sat.count l.z.solver) (g.S.Sat.added l.z.solver));
   closed : HasClosed l.fn.z.known l.z.known;

@@ -9,7 +9,7 @@ use Rattle.ic3_engine.proofs.covering.cover.Given as goal
 
 abbrev pub invariant-loop-failure : goal.invariant-loop-failure
 invariant-loop-failure g l = record {
-  goes_on : GoesOn l.coded l.prop
+  goes_on : GoesOn l.coded l.aim
       (state l.fn.z.known l.fn.z.frames l.fn.z.queue (g.S.Sat.count l.fn.z.solver) (g.S.Sat.added l.fn.z.solver))
       (state l.z.known l.z.frames l.z.queue (g.S.Sat.count l.z.solver) (g.S.Sat.added l.z.solver));
   empty : l.z.queue ≡ [];

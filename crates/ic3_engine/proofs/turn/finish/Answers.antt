@@ -1,4 +1,5 @@
-use Rattle.std.proofs.Common.{ℕ, sym, ◌∙◌, subst}
+use Rattle.std.proofs.Common.{sym, ◌∙◌, subst}
+use Rattle.ic3_general.specs.declared.aim.Aim.{Aim}
 use Rattle.ic3_engine.specs.Waiting.{AreWaiting, IsWaiting}
 use Rattle.ic3_engine.proofs.LevelLemmas.{part_is_free}
 use Rattle.ic3_engine.proofs.TurnLemmas.{part_is_free_at_top}
@@ -19,16 +20,16 @@ pub returns-in_ok-put_again-in-None-clause-blocks :
     goal.returns-in_ok-put_again-in-None-clause-blocks
 returns-in_ok-put_again-in-None-clause-blocks g c =
     let t = c.args.coded.now in
-    let p : ℕ = c.args.prop in
+    let a : Aim = c.args.aim.now in
     let step = c.in_ok-settle-in-None.ensures.step in
     let same = c.top.ensures ∙ step.top in
-    let waiting = c.put_again.ensures.waiting t p (subst (λ k. IsWaiting t p k c.args.now) (sym same) c.requires.waits)
-    (subst (λ k. AreWaiting t p k c.args.z.now.queue) (sym same) c.requires.search.waiting) in
+    let waiting = c.put_again.ensures.waiting t a (subst (λ k. IsWaiting t a k c.args.now) (sym same) c.requires.waits)
+    (subst (λ k. AreWaiting t a k c.args.z.now.queue) (sym same) c.requires.search.waiting) in
     record {
       searching = record {
         search = step.search;
         task = c.requires.search.task;
-        waiting = subst (λ k. AreWaiting t p k c.put_again.new.queue) c.top.ensures waiting;
+        waiting = subst (λ k. AreWaiting t a k c.put_again.new.queue) c.top.ensures waiting;
       };
       top = step.top;
       rises = step.rises;

@@ -6,6 +6,8 @@ use Rattle.ja_base.specs.Valuation.{IsValuation, latch_row, input_row}
 use Rattle.aig_model.specs.Netlist.{Netlist, circuit}
 use Rattle.aig_model.specs.Task.{VerificationTask, problem}
 use Rattle.ja_project.specs.Latches.{is_foreign}
+use Rattle.ic3_general.specs.declared.aim.Aim.{Aim}
+use Rattle.ic3_general.specs.Aims.{respecting}
 use Rattle.ic3_general.specs.Chains.{AllLead}
 use Rattle.ic3_general.specs.Cubes.{IsOutside}
 use Rattle.ic3_general.specs.Lifting.{MakesSure}
@@ -29,8 +31,8 @@ pub lift-requires-clause-met : goal.lift-requires-clause-met
 lift-requires-clause-met c =
     let vals : List Bool = c.args.vals.now in
     subst (All (λ l. value vals l ≡ true)) (sym (c.as_slice.ensures.value ∙ c.in_ok-target.ensures.value))
-    (step_target_met c.args.coded.now c.task.ensures.sound c.task.ensures.expected vals c.args.clause.now c.requires.step
-    c.requires.constrained c.requires.held c.requires.later)
+    (step_target_met (respecting c.args.coded.now c.args.aim.now.respect) c.task.ensures.sound c.requires.aim.wide vals
+    c.args.clause.now c.requires.step c.requires.constrained c.requires.held c.requires.later)
 
 pub returns-clause-own : goal.returns-clause-own
 returns-clause-own c =
@@ -44,8 +46,9 @@ returns-clause-around c =
     c.in_ok-clause.ensures.around
 
 pub returns-clause-leads : goal.returns-clause-leads
-returns-clause-leads c p leads =
-    let t : VerificationTask = c.args.coded.now in
+returns-clause-leads c leads =
+    let a : Aim = c.args.aim.now in
+    let t : VerificationTask = respecting c.args.coded.now a.respect in
     let vals : List Bool = c.args.vals.now in
     let same = c.design-design.ensures.value ∙ ap (λ (t : VerificationTask). t.design) c.task.ensures.value in
     let target = c.as_slice.ensures.value ∙ c.in_ok-target.ensures.value in
@@ -54,6 +57,6 @@ returns-clause-leads c p leads =
     c.in_ok-clause.ensures.sure) in
     let input = c.in_ok-input.ensures ∙ ap (λ (n : Netlist). input_row (circuit n) vals) same in
     let chain = c.in_ok-chain.ensures ∙ ap (λ (x : List Bool). x ∷ c.args.chain.now) input in
-    subst (λ (xs : List (List Bool)). AllLead (problem t) p c.in_ok-clause.clause xs) (sym chain)
-    (cube_leads_back t c.task.ensures.sound c.task.ensures.expected vals p c.args.clause.now c.in_ok-clause.clause
+    subst (λ (xs : List (List Bool)). AllLead (problem t) a.prop c.in_ok-clause.clause xs) (sym chain)
+    (cube_leads_back t c.task.ensures.sound c.requires.aim.wide vals a.prop c.args.clause.now c.in_ok-clause.clause
     c.args.chain.now makes leads)

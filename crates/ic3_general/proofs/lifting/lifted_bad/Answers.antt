@@ -8,6 +8,8 @@ use Rattle.ja_base.specs.Valuation.{IsValuation, latch_row, input_row}
 use Rattle.aig_model.specs.Netlist.{Netlist, circuit}
 use Rattle.aig_model.specs.Task.{VerificationTask, problem}
 use Rattle.ja_project.specs.Latches.{is_foreign}
+use Rattle.ic3_general.specs.declared.aim.Aim.{Aim}
+use Rattle.ic3_general.specs.Aims.{respecting}
 use Rattle.ic3_general.specs.Chains.{AllLead}
 use Rattle.ic3_general.specs.Cubes.{IsOutside}
 use Rattle.ic3_general.specs.Lifting.{MakesSure}
@@ -32,7 +34,7 @@ lift-requires-clause-met c =
     let t : VerificationTask = c.args.coded.now in
     let vals : List Bool = c.args.vals.now in
     subst (All (λ l. value vals l ≡ true)) (sym (c.as_slice.ensures.value ∙ c.in_ok-target.ensures.value))
-    (All-cons (λ l. value vals l ≡ true) (bad_literal (circuit t.design) c.args.prop) t.design.constraints c.requires.bad
+    (All-cons (λ l. value vals l ≡ true) (bad_literal (circuit t.design) c.args.aim.now.prop) t.design.constraints c.requires.bad
     c.requires.constrained)
 
 pub returns-clause-own : goal.returns-clause-own
@@ -48,7 +50,8 @@ returns-clause-around c =
 
 pub returns-clause-leads : goal.returns-clause-leads
 returns-clause-leads c =
-    let t : VerificationTask = c.args.coded.now in
+    let a : Aim = c.args.aim.now in
+    let t : VerificationTask = respecting c.args.coded.now a.respect in
     let vals : List Bool = c.args.vals.now in
     let same = c.design-design.ensures.value ∙ ap (λ (t : VerificationTask). t.design) c.task.ensures.value in
     let target = c.as_slice.ensures.value ∙ c.in_ok-target.ensures.value in
@@ -57,6 +60,6 @@ returns-clause-leads c =
     c.in_ok-clause.ensures.sure) in
     let input = c.in_ok-input.ensures ∙ ap (λ (n : Netlist). input_row (circuit n) vals) same in
     let chain = c.in_ok-chain.ensures ∙ ap (λ (x : List Bool). x ∷ []) input in
-    subst (λ (xs : List (List Bool)). AllLead (problem t) c.args.prop c.in_ok-clause.clause xs) (sym chain)
-    (cube_leads_last t c.task.ensures.sound c.task.ensures.expected vals c.args.prop
-    (bad_literal (circuit t.design) c.args.prop) c.in_ok-clause.clause (λ v one. one) makes)
+    subst (λ (xs : List (List Bool)). AllLead (problem t) a.prop c.in_ok-clause.clause xs) (sym chain)
+    (cube_leads_last t c.task.ensures.sound c.requires.aim.wide vals a.prop (bad_literal (circuit t.design) a.prop)
+    c.in_ok-clause.clause (λ v one. one) makes)

@@ -3,6 +3,7 @@ use Rattle.ja_base.specs.Clauses.{IsBelow}
 use Rattle.aig_model.specs.Netlist.{Netlist}
 use Rattle.aig_model.specs.Task.{VerificationTask}
 use Rattle.ja_project.specs.CodedClauses.{held_literals, negated_next}
+use Rattle.ic3_general.specs.Aims.{respecting}
 use Rattle.ic3_general.proofs.TargetLemmas.{step_target_below}
 use Rattle.ic3_general.proofs.targets.step_target.Goals as goal
 
@@ -17,7 +18,7 @@ returns-clause-below c =
     let front : c.push_constraints.new.lits ≡ negated_next t.design clause ++ t.design.constraints =
     c.in_ok-push_constraints.ensures ∙ ap (λ (xs : List ℕ). xs ++ c.design-design.result.now.constraints) nexts
     ∙ ap (λ (n : Netlist). negated_next t.design clause ++ n.constraints) same in
-    let all : c.push_all.new.lits ≡ (negated_next t.design clause ++ t.design.constraints) ++ held_literals t =
-    c.in_ok-push_all.ensures ∙ ap (λ (xs : List ℕ). xs ++ c.held.result.now) front
-    ∙ ap (λ (xs : List ℕ). (negated_next t.design clause ++ t.design.constraints) ++ xs) c.held.ensures.list in
-    subst (IsBelow (t.design.vars + 1)) (sym all) (step_target_below t clause c.task.ensures.sound)
+    let chosen : VerificationTask = respecting t c.args.respect.now in
+    let all : c.push_respected.new.lits ≡ (negated_next t.design clause ++ t.design.constraints) ++ held_literals chosen =
+    c.in_ok-push_respected.ensures ∙ ap (λ (xs : List ℕ). xs ++ held_literals chosen) front in
+    subst (IsBelow (t.design.vars + 1)) (sym all) (step_target_below chosen clause c.task.ensures.sound)

@@ -1,5 +1,3 @@
-use Rattle.std.proofs.Common.{◌≡◌, ℕ, List}
-use Rattle.refute_check.specs.Checked.{Follows}
 use Rattle.sat_cdcl.specs.Files.{list_of}
 use Rattle.sat_cdcl.proofs.KeeperLemmas.{follows_at}
 use Rattle.sat_cdcl.proofs.keep_sat.short_of.Goals as goal

@@ -1,11 +1,12 @@
 use Rattle.std.proofs.Common.{◌≡◌}
 use Rattle.desk.specs.Seats.{IsLater}
-use Rattle.worker_pool.specs.Judgements.{IsEngine, unset}
+use Rattle.ic3_engine.specs.Engines.{IsReadyFor}
+use Rattle.worker_pool.specs.Judgements.{unset}
 use Rattle.worker_pool.proofs.deciding.decide.Given as goal
 
 abbrev pub invariant-loop-done : goal.invariant-loop-done
 invariant-loop-done g l = record {
-  engine : IsEngine g.S.Sat.count g.S.Sat.added l.coded l.engine;
+  engine : IsReadyFor g.S.Sat.count g.S.Sat.added l.coded l.engine;
   seat : IsLater l.fn.seat l.seat;
   limit : l.meter.limit ≡ l.fn.limit;
 }

@@ -6,7 +6,7 @@ use Rattle.refute_check.specs.Checked.{FollowsOne, clauses_at}
 use Rattle.sat_plain.specs.declared.place.Place.{Place}
 use Rattle.sat_plain.specs.Solvers.{Solver}
 use Rattle.sat_plain.specs.Trails.{Assigned}
-use Rattle.sat_cdcl.specs.Files.{Filed, AreForcedAll, list_of, places_of}
+use Rattle.sat_cdcl.specs.Files.{Filed, AreForcedAll, list_of}
 use Rattle.sat_cdcl.specs.Questions.{IsKeepable}
 use Rattle.sat_cdcl.proofs.KeeperLemmas.{chosen_kept, keeper_after}
 use Rattle.sat_cdcl.proofs.keep_sat.KeepSat.keep.Goals as goal

@@ -1,4 +1,4 @@
-use Rattle.std.proofs.Common.{◌≡◌, ℕ, ◌<◌, List, length, sym, subst, ◌∙◌, ap}
+use Rattle.std.proofs.Common.{◌≡◌, ℕ, List, sym, subst, ◌∙◌, ap}
 use Rattle.std.specs.List.{All}
 use Rattle.refute_check.specs.Checked.{clauses_at}
 use Rattle.sat_plain.specs.Solvers.{Solver}

@@ -1,0 +1,2 @@
+pub mod DemoText
+pub mod DemoParts
