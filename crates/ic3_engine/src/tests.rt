@@ -41,11 +41,12 @@ const GRANTS: &[u8] = b"aag 6 2 2 1 2 2\n2\n4\n6 2\n8 10\n8\n12\n8\n10 4 3\n12 8
 /// A latch that keeps the value with which it starts, and one that takes the input.
 const FREE: &[u8] = b"aag 3 1 2 0 0 2\n2\n4 4 4\n6 2\n4\n6\n";
 
-/// A chain of 24 latches: the first is 1 from step 1 on, each other one a step after the one before it.
-const CHAIN: &[u8] =
-    b"aag 24 0 24 0 0 1\n2 1\n4 2\n6 4\n8 6\n10 8\n12 10\n14 12\n16 14\n18 16\n20 18\n\
-    22 20\n24 22\n26 24\n28 26\n30 28\n32 30\n34 32\n36 34\n38 36\n40 38\n42 40\n\
-    44 42\n46 44\n48 46\n48\n";
+/// A counter of six bits, which starts at 0: the property is that its highest bit is 0.
+const COUNTER: &[u8] =
+    b"aag 25 0 6 0 19 1\n2 3\n4 19\n6 27\n8 35\n10 43\n12 51\n12\n14 4 3\n16 5 2\n\
+    18 17 15\n20 4 2\n22 21 6\n24 20 7\n26 25 23\n28 20 6\n30 29 8\n32 28 9\n\
+    34 33 31\n36 28 8\n38 37 10\n40 36 11\n42 41 39\n44 36 10\n46 45 12\n48 44 13\n\
+    50 49 47\n";
 
 /// A design, the properties that are expected to fail, and what comes of each.
 type Row = (&'static [u8], [bool; 3], &'static [Mark]);
@@ -362,15 +363,15 @@ fn tells_what_the_way_breaks_first(rt: HostRuntime) -> Result<(), Fail> {
     Ok(())
 }
 
-// The last latch is 1 from step 24 on. The levels rise to 16, where a random run meets what they would reach at 24.
+// The highest bit is first 1 at step 32. The levels rise to 16, where a random run meets what they would reach only higher up.
 #[test]
 fn looks_at_random_runs_where_the_top_is_high(rt: HostRuntime) -> Result<(), Fail> {
     let alloc = rt.alloc();
-    let coded = coded(alloc, CHAIN, [false; 3]).ok_or("no design")?;
+    let coded = coded(alloc, COUNTER, [false; 3]).ok_or("no design")?;
     let mut engine: Engine<PlainSat, PlainSat> = engine(alloc, &coded)?;
     if coded.task().design().props() == 1 {
         let broken = first_broken::<PlainSat>(alloc, &coded, 0, &mut engine)?;
-        assert_eq!(rt; broken, (0, 25));
+        assert_eq!(rt; broken, (0, 33));
     }
     assert_eq!(rt; engine.search.frames.top(), 16);
     Ok(())
