@@ -20,6 +20,7 @@ use Rattle.ic3_query.specs.Questions.{BadFor, IsGoodFrom}
 use Rattle.ic3_query.specs.Serving.{Serves}
 use Rattle.ic3_engine.proofs.KeepLemmas.{all_above_top}
 use Rattle.ic3_engine.specs.Climbing.{IsEngine}
+use Rattle.ic3_engine.specs.Knowing.{IsBreak}
 use Rattle.ic3_engine.specs.Turns.{state}
 use Rattle.ic3_engine.proofs.SettleLemmas.{sound_where_more}
 
@@ -104,3 +105,8 @@ pub not_bad_covers : (t : VerificationTask) (known : List (List ℕ)) (f : Level
     → AreLevels f → above ≡ f.top + 1 → BadFor t known f above p values breaks → not breaks ≡ true → Covers (circuit t.design) known p
 not_bad_covers t known f above p values true levels is answer holds = absurd (false≢true holds)
 not_bad_covers t known f above p values false levels is answer holds = good_above_covers t known f above p levels is answer
+
+pub bad_breaks : (t : VerificationTask) (known : List (List ℕ)) (f : Levels) (above p : ℕ) (values : List Bool) (breaks : Bool)
+    → BadFor t known f above p values breaks → not breaks ≡ false → IsBreak (circuit t.design) p values
+bad_breaks t known f above p values true answer holds = record { step = answer.now; constrained = answer.constrained; bad = answer.bad }
+bad_breaks t known f above p values false answer holds = absurd (false≢true (sym holds))

@@ -8,6 +8,7 @@ pub mod Covering
 pub mod Putting
 pub mod Raising
 pub mod Climbing
+pub mod Knowing
 pub mod Engines
 pub mod Found
 pub mod Shares

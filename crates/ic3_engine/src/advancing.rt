@@ -13,10 +13,11 @@ ghost use Rattle.ic3_engine.specs.Found.{IsFound, IsFoundOn, noted_answer};
 ghost use Rattle.ic3_engine.specs.Turns.{state};
 
 use crate::aiming::aim_at;
-use crate::ascending::{ascend, known_covers};
+use crate::ascending::ascend;
 use crate::closing::give;
 use crate::engine::{Engine, note_answer, revive};
 use crate::found::Found;
+use crate::knowing::covers_for_good;
 use crate::outcome::Ascent;
 use ic3_general::Aim;
 use ic3_query::Halt;
@@ -26,7 +27,7 @@ use ja_project::Coded;
 use sat_plain::{Probe, Sat};
 use std::alloc::Global;
 
-/// What comes of the property at the top, which what is known may cover already.
+/// What comes of the property at the top, which what is known may cover already, or once cubes were blocked for good.
 fn ascended<S: Probe, L: Sat, F: Flag>(
     alloc: Global,
     coded: &Coded,
@@ -58,7 +59,7 @@ fn ascended<S: Probe, L: Sat, F: Flag>(
     ensures flag { IsPolled F.may_rise F.raised flag.old flag.new }
 {
     let search = &mut engine.search;
-    if known_covers(alloc, coded, aim.prop, search, meter, flag)? {
+    if covers_for_good(alloc, coded, &engine.table, aim, search, meter, flag)? {
         return Ok(Ascent::Covered);
     }
     let ascent = ascend(alloc, coded, &engine.table, aim, search, meter, flag)?;

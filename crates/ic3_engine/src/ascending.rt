@@ -1,7 +1,7 @@
 //! The search at one top: what breaks the property there is blocked, and then the top rises, unless what is known covers the
 //! property by then. Where the top is high, a look at random runs comes before the search goes on.
 
-ghost use Rattle.std.specs.Prelude.{◌≡◌, ◌<◌, length, true, IfOk};
+ghost use Rattle.std.specs.Prelude.{◌≡◌, ◌<◌, length, true, false, IfOk};
 ghost use Rattle.std.specs.Bool.{OnTrue};
 ghost use Rattle.ja_base.specs.Invariants.{Covers};
 ghost use Rattle.ja_outside.specs.Flags.{IsPolled, IsFoundRaised};
@@ -13,6 +13,7 @@ ghost use Rattle.ic3_query.specs.Known.{all_of};
 ghost use Rattle.ic3_query.specs.Questions.{IsRoom};
 ghost use Rattle.ic3_general.specs.Aims.{IsAim};
 ghost use Rattle.ic3_engine.specs.Climbing.{IsAscent, IsEngine};
+ghost use Rattle.ic3_engine.specs.Knowing.{IsBreak};
 ghost use Rattle.ic3_engine.specs.Turns.{state};
 
 use crate::climbing::climb;
@@ -29,7 +30,8 @@ use ja_project::{Coded, ResetTable};
 use sat_plain::Probe;
 use std::alloc::Global;
 
-/// Whether what is known covers the property: at the level above the top nothing else counts.
+/// Whether what is known covers the property: at the level above the top nothing else counts. Where it does not, `vals` of the room
+/// has the values of a step that breaks it.
 pub(crate) fn known_covers<S: Probe, F: Flag>(
     alloc: Global,
     coded: &Coded,
@@ -46,6 +48,8 @@ pub(crate) fn known_covers<S: Probe, F: Flag>(
         (S.count z.new.solver) (S.added z.new.solver)) }
     ensures covers { IfOk result (λ covered. covered ≡ true
         → Covers (circuit coded.now.design) (all_of z.new.known) prop) }
+    ensures breaks { IfOk result (λ covered. covered ≡ false
+        → IsBreak (circuit coded.now.design) prop z.new.room.vals) }
     ensures known { z.new.known ≡ z.old.known }
     ensures frames { z.new.frames ≡ z.old.frames }
     ensures queue { z.new.queue ≡ z.old.queue }

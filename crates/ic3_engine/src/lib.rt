@@ -14,6 +14,7 @@ mod engine;
 mod fixing;
 mod found;
 mod good;
+mod knowing;
 mod learning;
 mod local;
 mod outcome;

@@ -38,3 +38,14 @@ pub(crate) enum Ascent {
     /// The top is one higher.
     Higher,
 }
+
+/// What comes of a look at what is known alone.
+#[derive(Clone, Copy, Debug, PartialEq, Eq)]
+pub(crate) enum Look {
+    /// It covers the property.
+    Covered,
+    /// One cube of rows that break it is blocked for good.
+    Blocked,
+    /// Levels are needed, or there is a failure.
+    Open,
+}

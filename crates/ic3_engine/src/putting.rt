@@ -11,7 +11,8 @@ use inv_cert::Closed;
 use ja_base::{Clause, ClauseList, ClosedSet, Memory};
 use std::alloc::Global;
 
-fn put(alloc: Global, frames: &mut Frames, clause: &Clause) -> Result<(), Memory>
+/// The clause is blocked at the top from now on.
+pub(crate) fn put(alloc: Global, frames: &mut Frames, clause: &Clause) -> Result<(), Memory>
     requires { 1 ≤ frames.old.top }
     ensures top { frames.new.top ≡ frames.old.top }
     ensures kept { OnOk result

@@ -10,7 +10,8 @@ ghost use Rattle.ic3_general.specs.Aims.{IsAim};
 ghost use Rattle.ic3_engine.specs.Climbing.{Ends, IsEngine};
 ghost use Rattle.ic3_engine.specs.Turns.{state};
 
-use crate::ascending::{ascend, known_covers};
+use crate::ascending::ascend;
+use crate::knowing::covers_for_good;
 use crate::learning::take_news;
 use crate::outcome::Ascent;
 use crate::search::Search;
@@ -66,7 +67,7 @@ pub(crate) fn run<S: Probe, F: Flag, H: Share>(
     }
 }
 
-/// What is known alone is asked first, before a level is looked at.
+/// What is known alone is asked first, and what can be blocked for good, before a level is looked at.
 pub(crate) fn seek<S: Probe, F: Flag, H: Share>(
     alloc: Global,
     coded: &Coded,
@@ -97,7 +98,7 @@ pub(crate) fn seek<S: Probe, F: Flag, H: Share>(
     ensures share_task { H.task share.new ≡ H.task share.old }
     ensures share_later { H.later share.old share.new }
 {
-    if known_covers(alloc, coded, aim.prop, z, meter, flag)? {
+    if covers_for_good(alloc, coded, table, aim, z, meter, flag)? {
         return Ok(None);
     }
     let found = run(alloc, coded, table, aim, z, meter, flag, share)?;
